@@ -1,0 +1,11 @@
+pub mod Desk
+pub mod Entries
+pub mod Fail
+pub mod Host
+pub mod InsideLit
+pub mod Literal
+pub mod Mem
+pub mod Place
+pub mod Sets
+pub mod Take
+pub mod Walks
