@@ -1,0 +1,8 @@
+mod CappedDigits
+mod Fronts
+pub mod LineText
+pub mod NumberText
+mod Pieces
+mod Rows
+mod Steps
+pub mod WordText
