@@ -1,0 +1,12 @@
+pub mod ExternalLaws
+pub mod FactLaws
+pub mod FallingOrder
+pub mod FinishLaws
+pub mod Least
+pub mod LevelLaws
+pub mod Negative
+pub mod Passing
+pub mod PlaceLaws
+pub mod Plain
+pub mod RisingLaws
+mod Rows

@@ -1,0 +1,30 @@
+use Rattle.std.proofs.Common.{◌≡◌, ◌<◌, true, arith, length}
+use Rattle.std.proofs.lemmas.Grind.{common_steps}
+use Rattle.asp_base.specs.Sets.{members}
+use Rattle.ground_program.proofs.PlaceLaws.{place-found, not_found}
+use Rattle.ground_program.proofs.RisingLaws.{IsStrictlyIncreasing-from_rises}
+use Rattle.ground_program.proofs.places.place_among.Goals as goal
+
+pub overflow_cast-result : goal.overflow_cast-result
+overflow_cast-result c = let f = place-found c.args.atoms.now c.args.atom c.in-Ok.index c.in-Ok.ensures.position c.requires in
+    let below : c.in-Ok.index < c.args.atom = f.2 in
+    omega arith
+
+pub overflow_add-result : goal.overflow_add-result
+overflow_add-result c = let f = place-found c.args.atoms.now c.args.atom c.in-Ok.index c.in-Ok.ensures.position c.requires in
+    let below : c.in-Ok.index < c.args.atom = f.2 in
+    omega arith
+
+pub returns-in-Ok-clause-place : goal.returns-in-Ok-clause-place
+returns-in-Ok-clause-place c = let f = place-found c.args.atoms.now c.args.atom c.in-Ok.index c.in-Ok.ensures.position c.requires in
+    let within : c.in-Ok.index < length c.args.atoms.now = f.1 in
+    (f.0, omega arith, omega arith)
+
+pub returns-in-Ok-clause-none : goal.returns-in-Ok-clause-none
+returns-in-Ok-clause-none c = let f = place-found c.args.atoms.now c.args.atom c.in-Ok.index c.in-Ok.ensures.position c.requires in
+    let is : members c.args.atoms.now c.args.atom ≡ true = f.3 in
+    grind (arith, common_steps)
+
+pub returns-in-Err-clause-none : goal.returns-in-Err-clause-none
+returns-in-Err-clause-none c = let f = not_found c.args.atoms.now c.args.atom c.in-Err.field-0 c.in-Err.ensures.position (IsStrictlyIncreasing-from_rises 0 c.args.atoms.now c.requires) in
+    grind (arith, common_steps)

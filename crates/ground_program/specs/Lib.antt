@@ -1,0 +1,13 @@
+pub mod Closed
+pub mod Draft
+pub mod Externals
+pub mod Facts
+pub mod Falling
+pub mod Ground
+pub mod Inside
+pub mod InsideDraft
+pub mod Negative
+pub mod Occurrences
+pub mod Reading
+pub mod Size
+pub mod Stable

@@ -1,0 +1,26 @@
+//! Ground logic programs without disjunction: types, a builder, sets of atoms.
+#![tactic(auto)]
+
+mod atom_set;
+mod builder;
+mod externals;
+mod gather;
+pub mod laws;
+mod levels;
+mod lists;
+mod measure;
+mod places;
+mod program;
+mod reading;
+#[cfg(test)]
+mod tests;
+
+pub use atom_set::AtomSet;
+pub use builder::{External, ProgramBuilder};
+pub use lists::{AtomList, ItemList, LitList};
+pub use measure::size;
+pub use places::{place_among, variable};
+pub use program::{
+    Body, Edge, EdgeList, Head, Level, LevelList, Program, Rule, RuleList, Show, ShowList,
+};
+pub use reading::{ReadKind, ReadRefusal};
