@@ -1,0 +1,5 @@
+pub mod FieldText
+pub mod NameEnds
+pub mod NoFeed
+pub mod PastBlank
+pub mod SoFar

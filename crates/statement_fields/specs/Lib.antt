@@ -1,0 +1,3 @@
+pub mod Feeds
+pub mod Fields
+pub mod Weights
