@@ -1,0 +1,6 @@
+mod Ends
+mod Feeds
+mod Naturals
+mod Required
+mod Rows
+mod Shows

@@ -1,0 +1,3 @@
+pub mod Aspif
+pub mod Digits
+pub mod Steps
