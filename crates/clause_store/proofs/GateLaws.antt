@@ -1,0 +1,331 @@
+-- Truth of literals and clauses under assignments that agree, and conjunctions: each gives one value more to each assignment.
+use Rattle.std.proofs.Common.{◌≡◌, refl, sym, ◌∙◌, ap, ap₂, subst, subst₂, ℕ, suc, ◌≤◌, ◌<◌, Bool, true, false, cond, not, ◌&&◌, ◌||◌, ◌==◌, List, [], ◌∷◌, ◌++◌, map, Option, Some, None, arith}
+use Rattle.std.specs.List.{list_all, AllByRecursion, flat_map}
+use Rattle.std.proofs.lemmas.Bool.{and_parts, and_from, true≢false, eqb-true, eq-eqb, ne_eqb, cond-true, cond-false}
+use Rattle.std.proofs.lemmas.List.Folds.{list_all-append}
+use Rattle.asp_base.specs.Literal.{Literal, Pos, Neg, negation, atom_of, same_literal}
+use Rattle.asp_base.specs.Sets.{Set}
+use Rattle.clause_store.specs.Inside.{IsOver}
+use Rattle.clause_store.specs.Models.{is_true, clause_true, clauses_true, IsAssignment}
+use Rattle.clause_store.specs.Stored.{Stored, same_literals, find_known, gate_clauses, with_gate, gate_output, conjunction, after_conjunction}
+
+-- ---- truth
+
+abbrev pub all_true : List Literal → Set → Bool
+all_true lits A = list_all (λ l. is_true l A) lits
+
+-- the same on the variables up to n
+abbrev pub Agree : ℕ → Set → Set → Type 0
+Agree n A B = (v : ℕ) → v ≤ n → A v ≡ B v
+
+pub is_true-agree : (n : ℕ) (A B : Set) → Agree n A B → (l : Literal) → IsOver n l → is_true l A ≡ is_true l B
+is_true-agree n A B h (Pos a) o = h a o.1
+is_true-agree n A B h (Neg a) o = ap not (h a o.1)
+
+pub clause_true-agree : (n : ℕ) (A B : Set) → Agree n A B → (c : List Literal) → AllByRecursion (IsOver n) c → clause_true c A ≡ clause_true c B
+clause_true-agree n A B h [] o = refl
+clause_true-agree n A B h (l ∷ c) o = ap₂ ◌||◌ (is_true-agree n A B h l o.0) (clause_true-agree n A B h c o.1)
+
+pub all_true-agree : (n : ℕ) (A B : Set) → Agree n A B → (c : List Literal) → AllByRecursion (IsOver n) c → all_true c A ≡ all_true c B
+all_true-agree n A B h [] o = refl
+all_true-agree n A B h (l ∷ c) o = ap₂ ◌&&◌ (is_true-agree n A B h l o.0) (all_true-agree n A B h c o.1)
+
+pub clauses_true-agree : (n : ℕ) (A B : Set) → Agree n A B → (cs : List (List Literal)) → AllByRecursion (AllByRecursion (IsOver n)) cs → clauses_true cs A ≡ clauses_true cs B
+clauses_true-agree n A B h [] o = refl
+clauses_true-agree n A B h (c ∷ cs) o = ap₂ ◌&&◌ (clause_true-agree n A B h c o.0) (clauses_true-agree n A B h cs o.1)
+
+not-not : (b : Bool) → b ≡ not (not b)
+not-not true = refl
+not-not false = refl
+
+pub is_true-negation : (l : Literal) (A : Set) → is_true (negation l) A ≡ not (is_true l A)
+is_true-negation (Pos a) A = refl
+is_true-negation (Neg a) A = not-not (A a)
+
+not_and : (x y : Bool) → (not x || not y) ≡ not (x && y)
+not_and true y = refl
+not_and false y = refl
+
+-- a clause of negations is false just where all are true
+pub clause_true-negations : (lits : List Literal) (A : Set) → clause_true (map negation lits) A ≡ not (all_true lits A)
+clause_true-negations [] A = refl
+clause_true-negations (l ∷ lits) A = ap₂ ◌||◌ (is_true-negation l A) (clause_true-negations lits A) ∙ not_and (is_true l A) (all_true lits A)
+
+pub clauses_true-flat_map : {X : Type 0} (f : X → List (List Literal)) (xs : List X) (A : Set) → clauses_true (flat_map f xs) A ≡ list_all (λ x. clauses_true (f x) A) xs
+clauses_true-flat_map f [] A = refl
+clauses_true-flat_map f (x ∷ xs) A =
+    list_all-append (λ c. clause_true c A) (f x) (flat_map f xs) ∙ ap (λ b. clauses_true (f x) A && b) (clauses_true-flat_map f xs A)
+
+pub clauses_true-front : (cs ds : List (List Literal)) (A : Set) → clauses_true (cs ++ ds) A ≡ true → clauses_true cs A ≡ true
+clauses_true-front cs ds A h = (and_parts _ _ (sym (list_all-append (λ c. clause_true c A) cs ds) ∙ h)).0
+
+pub clauses_true-back : (cs ds : List (List Literal)) (A : Set) → clauses_true (cs ++ ds) A ≡ true → clauses_true ds A ≡ true
+clauses_true-back cs ds A h = (and_parts _ _ (sym (list_all-append (λ c. clause_true c A) cs ds) ∙ h)).1
+
+pub clauses_true-both : (cs ds : List (List Literal)) (A : Set) → clauses_true cs A ≡ true → clauses_true ds A ≡ true → clauses_true (cs ++ ds) A ≡ true
+clauses_true-both cs ds A h k = list_all-append (λ c. clause_true c A) cs ds ∙ and_from _ _ h k
+
+-- ---- over which variables
+
+pub IsOver-up : (m n : ℕ) → m ≤ n → (l : Literal) → IsOver m l → IsOver n l
+IsOver-up m n h l o = (o.0, let k : atom_of l ≤ m = o.1 in omega arith)
+
+pub each-more : {X : Type 0} (P Q : X → Type 0) (f : (x : X) → P x → Q x) (xs : List X) → AllByRecursion P xs → AllByRecursion Q xs
+each-more P Q f [] h = tt
+each-more P Q f (x ∷ xs) h = (f x h.0, each-more P Q f xs h.1)
+
+pub each-append : {X : Type 0} (P : X → Type 0) (xs ys : List X) → AllByRecursion P xs → AllByRecursion P ys → AllByRecursion P (xs ++ ys)
+each-append P [] ys h k = k
+each-append P (x ∷ xs) ys h k = (h.0, each-append P xs ys h.1 k)
+
+pub each-mapped : {X Y : Type 0} (P : Y → Type 0) (f : X → Y) (xs : List X) → AllByRecursion (λ x. P (f x)) xs → AllByRecursion P (map f xs)
+each-mapped P f [] h = tt
+each-mapped P f (x ∷ xs) h = (h.0, each-mapped P f xs h.1)
+
+pub literals-up : (m n : ℕ) → m ≤ n → (lits : List Literal) → AllByRecursion (IsOver m) lits → AllByRecursion (IsOver n) lits
+literals-up m n h lits o = each-more _ _ (IsOver-up m n h) lits o
+
+pub clauses-up : (m n : ℕ) → m ≤ n → (cs : List (List Literal)) → AllByRecursion (AllByRecursion (IsOver m)) cs → AllByRecursion (AllByRecursion (IsOver n)) cs
+clauses-up m n h cs o = each-more _ _ (literals-up m n h) cs o
+
+pub negation-over : (l : Literal) (n : ℕ) → IsOver n l → IsOver n (negation l)
+negation-over (Pos a) n h = h
+negation-over (Neg a) n h = h
+
+pub negations-over : (lits : List Literal) (n : ℕ) → AllByRecursion (IsOver n) lits → AllByRecursion (IsOver n) (map negation lits)
+negations-over lits n h = each-mapped _ negation lits (each-more _ _ (λ l o. negation-over l n o) lits h)
+
+-- ---- equal lists of literals
+
+pub same_literal-true : (k l : Literal) → same_literal k l ≡ true → k ≡ l
+same_literal-true (Pos a) (Pos b) e = ap Pos (eqb-true a b e)
+same_literal-true (Neg a) (Neg b) e = ap Neg (eqb-true a b e)
+same_literal-true (Pos a) (Neg b) e = absurd (true≢false (sym e))
+same_literal-true (Neg a) (Pos b) e = absurd (true≢false (sym e))
+
+pub same_literals-true : (xs ys : List Literal) → same_literals xs ys ≡ true → xs ≡ ys
+same_literals-true [] [] e = refl
+same_literals-true (x ∷ xs) (y ∷ ys) e =
+    let k : (same_literal x y ≡ true) × (same_literals xs ys ≡ true) = and_parts _ _ e in ap₂ ◌∷◌ (same_literal-true x y k.0) (same_literals-true xs ys k.1)
+same_literals-true [] (y ∷ ys) e = absurd (true≢false (sym e))
+same_literals-true (x ∷ xs) [] e = absurd (true≢false (sym e))
+
+-- ---- what the clauses of a conjunction say
+
+-- x just where y
+abbrev pub agree : Bool → Bool → Bool
+agree x y = (not x || y) && (x || not y)
+
+pub agree-same : (x y : Bool) → agree x y ≡ true → x ≡ y
+agree-same true true e = refl
+agree-same true false e = sym e
+agree-same false true e = e
+agree-same false false e = refl
+
+pub same-agree : (x y : Bool) → x ≡ y → agree x y ≡ true
+same-agree true true e = refl
+same-agree true false e = sym e
+same-agree false true e = e
+same-agree false false e = refl
+
+spread : (x y z : Bool) → ((not x || (y || false)) && (not x || z)) ≡ (not x || (y && z))
+spread true true z = refl
+spread true false z = refl
+spread false y z = refl
+
+at_least : (x : Bool) → true ≡ (not x || true)
+at_least true = refl
+at_least false = refl
+
+pairs_say : (g : ℕ) (inputs : List Literal) (A : Set) → clauses_true (map (λ l. Neg g ∷ l ∷ []) inputs) A ≡ (not (A g) || all_true inputs A)
+pairs_say g [] A = at_least (A g)
+pairs_say g (l ∷ inputs) A =
+    ap (λ b. (not (A g) || (is_true l A || false)) && b) (pairs_say g inputs A) ∙ spread (A g) (is_true l A) (all_true inputs A)
+
+and_true : (b : Bool) → (b && true) ≡ b
+and_true true = refl
+and_true false = refl
+
+pub gate_clauses-say : (g : ℕ) (inputs : List Literal) (A : Set) → clauses_true (gate_clauses g inputs) A ≡ agree (A g) (all_true inputs A)
+gate_clauses-say g inputs A =
+    list_all-append (λ c. clause_true c A) (map (λ l. Neg g ∷ l ∷ []) inputs) ((Pos g ∷ map negation inputs) ∷ [])
+    ∙ ap₂ ◌&&◌ (pairs_say g inputs A) (and_true _ ∙ ap (λ b. A g || b) (clause_true-negations inputs A))
+
+unit_says : (x : Bool) → ((x || false) && true) ≡ agree x true
+unit_says true = refl
+unit_says false = refl
+
+-- ---- extensions
+
+-- the variable of a conjunction is true just where all its literals are, wherever the clauses are true
+pub record IsGate (vars : ℕ) (hard : List (List Literal)) (gate : List Literal × ℕ) : Type 0 where
+  pub output : (0 < gate.1) × (gate.1 ≤ vars)
+  pub says : (A : Set) → clauses_true hard A ≡ true → A gate.1 ≡ all_true gate.0 A
+
+-- the clauses are over the store's variables, and the known conjunctions have their meaning
+pub record IsSound (s : Stored) : Type 0 where
+  pub over : AllByRecursion (AllByRecursion (IsOver s.vars)) s.hard
+  pub known : AllByRecursion (IsGate s.vars s.hard) s.known
+
+-- each assignment that the earlier clauses take has just one extension to the later variables that the later clauses take
+pub record Extends (before after : Stored) : Type 0 where
+  pub vars : before.vars ≤ after.vars
+  pub edges : after.edges ≡ before.edges
+  pub soft : after.soft ≡ before.soft
+  pub keeps : (A : Set) → clauses_true after.hard A ≡ true → clauses_true before.hard A ≡ true
+  pub some : (A : Set) → IsAssignment before.vars A → clauses_true before.hard A ≡ true
+      → (B : Set) × IsAssignment after.vars B × (clauses_true after.hard B ≡ true) × Agree before.vars A B
+  pub one : (A B : Set) → clauses_true after.hard A ≡ true → clauses_true after.hard B ≡ true → Agree before.vars A B → Agree after.vars A B
+
+pub Extends-same : (s : Stored) → Extends s s
+Extends-same s = record { vars = omega arith; edges = refl; soft = refl; keeps = λ A t. t; some = λ A a t. (A, a, t, λ v h. refl); one = λ A B t u e. e }
+
+pub Extends-compose : (s t u : Stored) → Extends s t → Extends t u → Extends s u
+Extends-compose s t u x y =
+    let low : s.vars ≤ t.vars = x.vars in
+    let high : t.vars ≤ u.vars = y.vars in
+    record {
+      vars = omega arith;
+      edges = y.edges ∙ x.edges;
+      soft = y.soft ∙ x.soft;
+      keeps = λ A h. x.keeps A (y.keeps A h);
+      some = λ A a h.
+          let mid : (B : Set) × IsAssignment t.vars B × (clauses_true t.hard B ≡ true) × Agree s.vars A B = x.some A a h in
+          let top : (C : Set) × IsAssignment u.vars C × (clauses_true u.hard C ≡ true) × Agree t.vars mid.0 C = y.some mid.0 mid.1 mid.2 in
+          (top.0, top.1, top.2, λ v k. mid.3 v k ∙ top.3 v (omega arith));
+      one = λ A B h k e. y.one A B h k (x.one A B (y.keeps A h) (y.keeps B k) e);
+    }
+
+-- an assignment with a value for one more variable
+abbrev with_value : ℕ → Bool → Set → Set
+with_value g b A v = cond (v == g) b (A v)
+
+with_value-agree : (n : ℕ) (b : Bool) (A : Set) → Agree n A (with_value (suc n) b A)
+with_value-agree n b A v h = sym (cond-false (v == suc n) b (A v) (ne_eqb v (suc n) (λ e. omega arith)))
+
+with_value-at : (n : ℕ) (b : Bool) (A : Set) → with_value (suc n) b A (suc n) ≡ b
+with_value-at n b A = cond-true (suc n == suc n) b (A (suc n)) (eq-eqb (suc n) (suc n) refl)
+
+with_value-over : (n : ℕ) (b : Bool) (A : Set) → IsAssignment n A → IsAssignment (suc n) (with_value (suc n) b A)
+with_value-over n b A h v = go (v == suc n) refl
+  where
+    go : (q : Bool) → (v == suc n) ≡ q → cond q b (A v) ≡ true → (0 < v) × (v ≤ suc n)
+    go true e t = let k : v ≡ suc n = eqb-true v (suc n) e in (omega arith, omega arith)
+    go false e t = let k : (0 < v) × (v ≤ n) = h v t in let low : 0 < v = k.0 in let high : v ≤ n = k.1 in (low, omega arith)
+
+up_to-next : (n v : ℕ) → v ≤ suc n → (P : ℕ → Type 0) → ((u : ℕ) → u ≤ n → P u) → P (suc n) → P v
+up_to-next n v h P below here = go (v == suc n) refl
+  where
+    go : (q : Bool) → (v == suc n) ≡ q → P v
+    go true e = subst P (sym (eqb-true v (suc n) e)) here
+    go false e = below v (let d : v ≡ suc n → ⊥ = λ k. true≢false (sym (eq-eqb v (suc n) k) ∙ e) in omega arith)
+
+-- one more variable, whose clauses say that it is what the earlier variables make it
+pub Extends-variable : (s : Stored) (cs : List (List Literal)) (known : List (List Literal × ℕ)) (value : Set → Bool) → AllByRecursion (AllByRecursion (IsOver s.vars)) s.hard
+    → ((A B : Set) → Agree s.vars A B → value A ≡ value B) → ((A : Set) → clauses_true cs A ≡ agree (A (suc s.vars)) (value A))
+    → Extends s (record { vars = suc s.vars; hard = s.hard ++ cs; edges = s.edges; soft = s.soft; known = known })
+Extends-variable s cs known value over same says =
+    let is : (A : Set) → clauses_true (s.hard ++ cs) A ≡ true → A (suc s.vars) ≡ value A = λ A t. agree-same _ _ (sym (says A) ∙ clauses_true-back s.hard cs A t) in
+    record {
+      vars = omega arith;
+      edges = refl;
+      soft = refl;
+      keeps = λ A t. clauses_true-front s.hard cs A t;
+      some = λ A a t.
+          let B : Set = with_value (suc s.vars) (value A) A in
+          let agrees : Agree s.vars A B = with_value-agree s.vars (value A) A in (
+            B,
+            with_value-over s.vars (value A) A a,
+            clauses_true-both s.hard cs B (sym (clauses_true-agree s.vars A B agrees s.hard over) ∙ t)
+                (says B ∙ same-agree _ _ (with_value-at s.vars (value A) A ∙ same A B agrees)),
+            agrees,
+          );
+      one = λ A B t u e v k. up_to-next s.vars v k (λ w. A w ≡ B w) e (is A t ∙ (same A B e ∙ sym (is B u)));
+    }
+
+-- what conjunctions mean stays so with more variables and clauses
+pub known-more : (m n : ℕ) (cs ds : List (List Literal)) (known : List (List Literal × ℕ)) → m ≤ n → AllByRecursion (IsGate m cs) known → AllByRecursion (IsGate n (cs ++ ds)) known
+known-more m n cs ds known h o = each-more _ _ (λ gate g. record {
+  output = (g.output.0, let k : gate.1 ≤ m = g.output.1 in omega arith);
+  says = λ A t. g.says A (clauses_true-front cs ds A t);
+}) known o
+
+-- a store with further clauses over its variables
+pub IsSound-clauses : (s : Stored) (ds : List (List Literal)) → AllByRecursion (AllByRecursion (IsOver s.vars)) ds → IsSound s → IsSound (record s { hard = s.hard ++ ds })
+IsSound-clauses s ds h x = record { over = each-append _ s.hard ds x.over h; known = known-more s.vars s.vars s.hard ds s.known (omega arith) x.known }
+
+-- ---- conjunctions
+
+gate_clauses-over : (n : ℕ) (inputs : List Literal) → AllByRecursion (IsOver n) inputs → AllByRecursion (AllByRecursion (IsOver (suc n))) (gate_clauses (suc n) inputs)
+gate_clauses-over n inputs h =
+    let more : AllByRecursion (IsOver (suc n)) inputs = literals-up n (suc n) (omega arith) inputs h in
+    let here : IsOver (suc n) (Neg (suc n)) = (omega arith, omega arith) in
+    each-append _ (map (λ l. Neg (suc n) ∷ l ∷ []) inputs) ((Pos (suc n) ∷ map negation inputs) ∷ [])
+    (each-mapped _ (λ l. Neg (suc n) ∷ l ∷ []) inputs (each-more (IsOver (suc n)) (λ l. AllByRecursion (IsOver (suc n)) (Neg (suc n) ∷ l ∷ [])) (λ l o. (here, (o, tt))) inputs more))
+    ((here, negations-over inputs (suc n) more), tt)
+
+-- the literal stands for the conjunction of the inputs in the later store
+pub record Conjunction (inputs : List Literal) (before after : Stored) (l : Literal) : Type 0 where
+  pub sound : IsSound after
+  pub extends : Extends before after
+  pub over : IsOver after.vars l
+  pub says : (A : Set) → clauses_true after.hard A ≡ true → is_true l A ≡ all_true inputs A
+
+-- the conjunction that is found is the one that is looked for
+find_known-found : (vars : ℕ) (hard : List (List Literal)) (inputs : List Literal) (gates : List (List Literal × ℕ)) (g : ℕ) → AllByRecursion (IsGate vars hard) gates
+    → find_known inputs gates ≡ Some g → IsGate vars hard (inputs, g)
+find_known-found vars hard inputs [] g o e = absurd (cc)
+find_known-found vars hard inputs (gate ∷ gates) g o e = go (same_literals gate.0 inputs) refl e (λ t. find_known-found vars hard inputs gates g o.1 t)
+  where
+    go : (q : Bool) → same_literals gate.0 inputs ≡ q → cond q (Some gate.1) (find_known inputs gates) ≡ Some g
+        → (find_known inputs gates ≡ Some g → IsGate vars hard (inputs, g)) → IsGate vars hard (inputs, g)
+    go true s t rest =
+        let j : gate.1 ≡ g = cc in
+        let k : gate.0 ≡ inputs = same_literals-true gate.0 inputs s in
+        subst₂ (λ x y. IsGate vars hard (x, y)) k j o.0
+    go false s t rest = rest t
+
+by_gate : (s : Stored) (inputs : List Literal) → AllByRecursion (IsOver s.vars) inputs → IsSound s
+    → (found : Option ℕ) → find_known inputs s.known ≡ found → Conjunction inputs s (with_gate inputs s found) (Pos (gate_output s found))
+by_gate s inputs h x (Some g) e =
+    let o : IsGate s.vars s.hard (inputs, g) = find_known-found s.vars s.hard inputs s.known g x.known e in
+    record { sound = x; extends = Extends-same s; over = o.output; says = λ A t. o.says A t }
+by_gate s inputs h x None e =
+    let g : ℕ = suc s.vars in
+    let cs : List (List Literal) = gate_clauses g inputs in
+    let says : (A : Set) → clauses_true (s.hard ++ cs) A ≡ true → A g ≡ all_true inputs A =
+    λ A t. agree-same _ _ (sym (gate_clauses-say g inputs A) ∙ clauses_true-back s.hard cs A t) in
+    let here : (0 < g) × (g ≤ g) = (omega arith, omega arith) in
+    record {
+      sound = record {
+        over = each-append _ s.hard cs (clauses-up s.vars g (omega arith) s.hard x.over) (gate_clauses-over s.vars inputs h);
+        known = each-append _ s.known ((inputs, g) ∷ []) (known-more s.vars g s.hard cs s.known (omega arith) x.known) (record { output = here; says = says }, tt);
+      };
+      extends = Extends-variable s cs (s.known ++ ((inputs, g) ∷ [])) (all_true inputs) x.over (λ A B agrees. all_true-agree s.vars A B agrees inputs h) (gate_clauses-say g inputs);
+      over = here;
+      says = says;
+    }
+
+of_none : (s : Stored) → IsSound s → Conjunction [] s (after_conjunction [] s) (conjunction [] s)
+of_none s x =
+    let g : ℕ = suc s.vars in
+    let cs : List (List Literal) = (Pos g ∷ []) ∷ [] in
+    let here : (0 < g) × (g ≤ g) = (omega arith, omega arith) in
+    record {
+      sound = record {
+        over = each-append _ s.hard cs (clauses-up s.vars g (omega arith) s.hard x.over) ((here, tt), tt);
+        known = known-more s.vars g s.hard cs s.known (omega arith) x.known;
+      };
+      extends = Extends-variable s cs s.known (λ A. true) x.over (λ A B agrees. refl) (λ A. unit_says (A g));
+      over = here;
+      says = λ A t. agree-same _ _ (sym (unit_says (A g)) ∙ clauses_true-back s.hard cs A t);
+    }
+
+single : (b : Bool) → b ≡ (b && true)
+single true = refl
+single false = refl
+
+pub conjunction-is : (s : Stored) (inputs : List Literal) → AllByRecursion (IsOver s.vars) inputs → IsSound s → Conjunction inputs s (after_conjunction inputs s) (conjunction inputs s)
+conjunction-is s [] h x = of_none s x
+conjunction-is s (l ∷ []) h x = record { sound = x; extends = Extends-same s; over = h.0; says = λ A t. single (is_true l A) }
+conjunction-is s (l ∷ k ∷ lits) h x = by_gate s (l ∷ k ∷ lits) h x (find_known (l ∷ k ∷ lits) s.known) refl

@@ -1,0 +1,16 @@
+//! Formulas: hard and soft clauses, and edges under literals.
+#![tactic(auto)]
+
+mod assignment;
+mod clause_list;
+mod conjunction;
+mod formula;
+mod known;
+mod store;
+#[cfg(test)]
+mod tests;
+
+pub use assignment::Assignment;
+pub use clause_list::{Clause, ClauseList};
+pub use formula::{Formula, LitEdge, LitEdgeList, SoftClause, SoftList};
+pub use store::Store;

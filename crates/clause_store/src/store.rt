@@ -1,0 +1,167 @@
+ghost use Rattle.std.specs.Prelude.{◌≡◌, ◌<◌, ◌-◌, ◌^◌, ℕ, suc, List, [], None, IfOk, OnOk, OnErr};
+ghost use Rattle.std.specs.List.{AllByRecursion};
+ghost use Rattle.asp_base.specs.Literal.{Pos};
+ghost use Rattle.clause_store.specs.Inside.{IsOver, IsStore};
+ghost use Rattle.clause_store.specs.Stored.{inputs_only, with_variable, with_clause, conjunction, after_conjunction, formula_of_store, find_known, gate_output, with_gate};
+
+use crate::clause_list::ClauseList;
+use crate::conjunction::push_conjunction;
+use crate::formula::{Formula, LitEdgeList, SoftList};
+use crate::known::Known;
+use asp_base::{Lit, Memory};
+use std::alloc::Global;
+use std::marker::Model;
+
+/// A formula that grows.
+#[derive(Drop)]
+pub struct Store {
+    alloc: Global,
+    vars: u32,
+    hard: ClauseList,
+    edges: LitEdgeList,
+    soft: SoftList,
+    known: Known,
+}
+
+impl Model for Store {
+    ghost use Rattle.clause_store.specs.Stored.{Stored};
+    ghost use Rattle.clause_store.specs.Inside.{IsStore};
+
+    ghost Value = { Stored };
+
+    ghost use Rattle.clause_store.specs.StoreInside.{stored_of};
+
+    ghost view = { stored_of };
+
+    ghost invariant = { λ s. IsStore (stored_of s) };
+}
+
+impl Store {
+    /// Variables 1 to `inputs`, and no clause.
+    pub fn new(alloc: Global, inputs: u32) -> Store
+        requires { inputs < 2 ^ 31 }
+        ensures { result ≡ inputs_only inputs }
+    {
+        Store {
+            alloc,
+            vars: inputs,
+            hard: ClauseList::new(alloc),
+            edges: LitEdgeList::new(alloc),
+            soft: SoftList::new(alloc),
+            known: Known::new(alloc),
+        }
+    }
+
+    /// What every store is known to keep.
+    pub fn known(&self)
+        ensures { IsStore self.now }
+    {
+        let _ = &self.vars;
+    }
+
+    /// The number of variables.
+    pub fn vars(&self) -> u32
+        ensures { result ≡ self.now.vars }
+    {
+        self.vars
+    }
+
+    /// A new variable. After `Memory` the store is unchanged.
+    pub fn fresh(&mut self) -> Result<Lit, Memory>
+        requires { self.old.vars < 2 ^ 31 - 1 }
+        ensures ok { IfOk result (λ l. (l ≡ Pos (suc self.old.vars)) × (self.new ≡ with_variable self.old)) }
+        ensures err { OnErr result (self.new ≡ self.old) }
+    {
+        self.vars += 1;
+        Ok(Lit::positive(self.vars))
+    }
+
+    /// Adds a hard clause. After `Memory` the store is unchanged.
+    pub fn clause(&mut self, lits: &[Lit]) -> Result<(), Memory>
+        requires { AllByRecursion (IsOver self.old.vars) lits.now }
+        ensures ok { OnOk result (self.new ≡ with_clause lits.now self.old) }
+        ensures err { OnErr result (self.new ≡ self.old) }
+    {
+        self.hard.push(lits)
+    }
+
+    /// A literal that is true just where all of the literals are. A single literal is answered itself, no literal gives
+    /// a new variable with a unit clause, and two or more give the variable of an earlier call with the same list, or a
+    /// new one with its clauses. After `Memory` the store is unchanged.
+    pub fn all_of(&mut self, lits: &[Lit]) -> Result<Lit, Memory>
+        requires over { AllByRecursion (IsOver self.old.vars) lits.now }
+        requires room { self.old.vars < 2 ^ 31 - 1 }
+        ensures literal { IfOk result (λ l. l ≡ conjunction lits.now self.old) }
+        ensures ok { OnOk result (self.new ≡ after_conjunction lits.now self.old) }
+        ensures err { OnErr result (self.new ≡ self.old) }
+    {
+        match lits {
+            [] => self.always(),
+            [lit] => Ok(*lit),
+            _ => self.conjunction(lits),
+        }
+    }
+
+    /// A new variable with a unit clause.
+    fn always(&mut self) -> Result<Lit, Memory>
+        requires { self.old.vars < 2 ^ 31 - 1 }
+        ensures literal { IfOk result (λ l. l ≡ conjunction [] self.old) }
+        ensures ok { OnOk result (self.new ≡ after_conjunction [] self.old) }
+        ensures err { OnErr result (self.new ≡ self.old) }
+    {
+        let lit = Lit::positive(self.vars + 1);
+        self.hard.push(&[lit])?;
+        self.vars += 1;
+        Ok(lit)
+    }
+
+    /// The variable of an equal list, or a new one.
+    fn conjunction(&mut self, lits: &[Lit]) -> Result<Lit, Memory>
+        requires over { AllByRecursion (IsOver self.old.vars) lits.now }
+        requires room { self.old.vars < 2 ^ 31 - 1 }
+        ensures literal { IfOk result (λ l. l ≡ Pos (gate_output self.old (find_known lits.now self.old.known))) }
+        ensures ok { OnOk result (self.new ≡ with_gate lits.now self.old (find_known lits.now self.old.known)) }
+        ensures err { OnErr result (self.new ≡ self.old) }
+    {
+        if let Some(output) = self.known.get(lits) {
+            return Ok(Lit::positive(output));
+        }
+        self.new_conjunction(lits)
+    }
+
+    fn new_conjunction(&mut self, lits: &[Lit]) -> Result<Lit, Memory>
+        requires over { AllByRecursion (IsOver self.old.vars) lits.now }
+        requires room { self.old.vars < 2 ^ 31 - 1 }
+        requires unknown { find_known lits.now self.old.known ≡ None }
+        ensures literal { IfOk result (λ l. l ≡ Pos (suc self.old.vars)) }
+        ensures ok { OnOk result (self.new ≡ with_gate lits.now self.old None) }
+        ensures err { OnErr result (self.new ≡ self.old) }
+    {
+        let output = self.vars + 1;
+        let count = self.hard.len();
+        push_conjunction(self.alloc, &mut self.hard, output, lits)?;
+        match self.known.insert(self.alloc, lits, output) {
+            Ok(()) => {
+                self.vars = output;
+                Ok(Lit::positive(output))
+            }
+            Err(Memory) => {
+                self.hard.truncate(count);
+                Err(Memory)
+            }
+        }
+    }
+
+    /// The formula, with this top weight.
+    pub fn finish(self, top: u64) -> Formula
+        ensures { result ≡ formula_of_store self top }
+    {
+        Formula {
+            vars: self.vars,
+            hard: self.hard,
+            edges: self.edges,
+            soft: self.soft,
+            top,
+        }
+    }
+}
