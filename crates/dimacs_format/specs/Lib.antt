@@ -1,0 +1,4 @@
+pub mod CnfText
+pub mod Dimacs
+pub mod Reading
+pub mod Walks
