@@ -1,0 +1,9 @@
+mod Blanks
+mod Fronts
+mod LineEntries
+mod LinesSoFar
+pub mod MapRoundTrip
+mod MapRows
+pub mod NamesFit
+mod Rows
+mod Searched

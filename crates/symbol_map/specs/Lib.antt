@@ -1,0 +1,10 @@
+pub mod EntryFacts
+pub mod FaithfulMap
+pub mod Inside
+pub mod InsideDraft
+pub mod IsMap
+pub mod MapText
+pub mod MapWriting
+pub mod Restrict
+pub mod Scale
+pub mod Symbols
