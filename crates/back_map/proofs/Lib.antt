@@ -1,0 +1,13 @@
+mod AnswerRows
+mod AnswerSteps
+mod Costs
+mod Each
+mod FirstOnes
+mod LineSteps
+mod LineTokens
+mod Numerals
+mod Shows
+mod StatusWords
+mod Steps
+mod TextSteps
+mod TrueVariables
