@@ -1,6 +1,7 @@
 mod CappedDigits
 mod Fronts
 pub mod LineText
+pub mod LineTokens
 pub mod NumberText
 mod Pieces
 mod Rows
