@@ -1,0 +1,4 @@
+pub mod Arcs
+pub mod Cycle
+pub mod Loop
+pub mod Searching
