@@ -1,12 +1,12 @@
 -- The program of a draft keeps what is true of every program.
 use Rattle.std.proofs.Common.{◌≡◌, ◌∙◌, ℕ, ◌<◌, ◌≤◌, ◌^◌, true, cond, List, [], ◌∷◌, ◌++◌, map, arith}
-use Rattle.std.specs.Prelude.{pos}
+use Rattle.std.specs.Prelude.{ℤ, pos, ◌<ℤ◌}
 use Rattle.std.specs.List.{AllByRecursion, flat_map}
 use Rattle.std.proofs.lemmas.Bool.{or_right, cond_both}
 use Rattle.asp_base.specs.Literal.{atom_of}
 use Rattle.asp_base.specs.Sets.{members}
 use Rattle.ground_program.specs.Draft.{Draft, atoms_of_draft, external_rule, external_rules, heads_rule, into_levels, levels_onto, program_of, value_of}
-use Rattle.ground_program.specs.Facts.{IsAtom, Among, FitsWeight, FitsBodyWeight, HeadFits, BodyFits, RuleFits, ConditionFits, LevelFits, ShowFits, IsProgram, IsDraft}
+use Rattle.ground_program.specs.Facts.{IsAtom, IsPriority, Among, FitsWeight, FitsBodyWeight, HeadFits, BodyFits, RuleFits, ConditionFits, LevelFits, ShowFits, IsProgram, IsDraft}
 use Rattle.ground_program.specs.Occurrences.{atoms_of_literals, atoms_of_items, atoms_of_head, atoms_of_body, atoms_of_rule, into_rising, rising}
 use Rattle.ground_program.specs.declared.program.Head.{Head}
 use Rattle.ground_program.specs.declared.program.Head.TheVariants.{Nothing, One, Choice}
@@ -156,6 +156,20 @@ module _ (F : ℕ → Type 0) where
   levels-onto levels [] h k = h
   levels-onto levels (new ∷ news) h k = levels-onto (into_levels new levels) news (level-into new levels k.0 h) k.1
 
+priorities-into : (P : ℤ → Type 0) (new : Level) (levels : List Level) → P new.priority → AllByRecursion (λ level. P level.priority) levels → AllByRecursion (λ level. P level.priority) (into_levels new levels)
+priorities-into P new [] h k = (h, tt)
+priorities-into P new (level ∷ levels) h k = goes-into new level levels (AllByRecursion (λ level. P level.priority))
+    (λ l. (h, k))
+    (λ e. k)
+    (λ l. (k.0, priorities-into P new levels h k.1))
+
+priorities-onto : (P : ℤ → Type 0) (levels news : List Level) → AllByRecursion (λ level. P level.priority) levels → AllByRecursion (λ level. P level.priority) news → AllByRecursion (λ level. P level.priority) (levels_onto levels news)
+priorities-onto P levels [] h k = h
+priorities-onto P levels (new ∷ news) h k = priorities-onto P (into_levels new levels) news (priorities-into P new levels k.0 h) k.1
+
+pub priorities-below : (d : Draft) → IsDraft d → AllByRecursion (λ level. level.priority <ℤ pos (2 ^ 31)) d.levels
+priorities-below d h = All-each (λ level. IsPriority level.priority) (λ level. level.priority <ℤ pos (2 ^ 31)) (λ level k. k.1) d.levels h.priorities
+
 -- ---- the program
 
 pub program-from_draft : (d : Draft) → IsDraft d → IsProgram (program_of d)
@@ -181,7 +195,9 @@ program-from_draft d h =
       levels = levels-onto (Among atoms) [] d.levels tt
           (All-both (LevelFits IsAtom) (λ level. AllByRecursion (Among atoms) (atoms_of_items level.items)) (LevelFits (Among atoms)) (level-over IsAtom (Among atoms)) d.levels h.levels
           (All-pieces (Among atoms) (λ level. atoms_of_items level.items) d.levels (All-front (Among atoms) (flat_map (λ level. atoms_of_items level.items) d.levels) _ after_edges)));
-      priorities = FallsFrom-onto (pos (2 ^ 31)) [] d.levels tt h.priorities;
+      priorities = FallsFrom-onto (pos (2 ^ 31)) [] d.levels tt (priorities-below d h);
+      priorities_fit = priorities-onto IsPriority [] d.levels tt h.priorities;
+      nodes = h.nodes;
       shows = All-both (ShowFits IsAtom) (λ show. AllByRecursion (Among atoms) (atoms_of_literals show.condition)) (ShowFits (Among atoms)) (show-over IsAtom (Among atoms)) d.shows h.shows
           (All-pieces (Among atoms) (λ show. atoms_of_literals show.condition) d.shows (All-front (Among atoms) (flat_map (λ show. atoms_of_literals show.condition) d.shows) (map (λ set. set.0) d.externals) after_levels));
     }

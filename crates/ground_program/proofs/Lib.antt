@@ -1,7 +1,11 @@
+pub mod BrokenLaws
+pub mod Compose
 pub mod ExternalLaws
 pub mod FactLaws
 pub mod FallingOrder
 pub mod FinishLaws
+pub mod FreshLaws
+pub mod GapLaws
 pub mod Least
 pub mod LevelLaws
 pub mod Negative

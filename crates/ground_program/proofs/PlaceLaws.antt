@@ -1,5 +1,5 @@
 -- The place of an atom in a rising list, and the search for it.
-use Rattle.std.proofs.Common.{◌≡◌, refl, sym, ◌∙◌, ap, subst, ℕ, zero, suc, ◌+◌, ◌<◌, ◌≤◌, ◌^◌, ◌==◌, true, false, cond, List, [], ◌∷◌, length, get_or, Result, Ok, Err, is_ok, ⊎_elim, add-one, arith}
+use Rattle.std.proofs.Common.{◌≡◌, refl, sym, ◌∙◌, ap, subst, ℕ, zero, suc, ◌+◌, ◌-◌, ◌<◌, ◌≤◌, ◌^◌, ◌==◌, true, false, cond, List, [], ◌∷◌, length, get_or, Result, Ok, Err, is_ok, ⊎_elim, add-one, arith}
 use Rattle.std.specs.List.Sorted.{IsStrictlyIncreasing, IsBinarySearchResult}
 use Rattle.std.specs.Ordering.{nat_cmp}
 use Rattle.std.proofs.lemmas.Bool.{or_cases, true≢false, eq-eqb, ne_eqb, cond_both, cond-true, cond-false, false_from_ne_true}
@@ -63,6 +63,16 @@ place-found xs x i h r =
     let s : (i < length xs) × (get_or xs i 0 ≡ x) = found_at xs x i h (IsStrictlyIncreasing-from_rises 0 xs r) in
     let above : 0 + i < get_or xs i 0 = above_index 0 xs i r s.0 in
     (add-one i ∙ sym (place-at 0 xs i r s.0) ∙ ap (place xs) s.1, s.0, omega arith, subst (λ z. members xs z ≡ true) s.1 (members-at xs i s.0))
+
+-- ---- what stands at the index below its number
+
+pub member-by_number : (xs : List ℕ) (a : ℕ) → 0 < a → a ≤ length xs → get_or xs (a - 1) 0 ≡ a → members xs a ≡ true
+member-by_number xs a p l e = subst (λ z. members xs z ≡ true) e (members-at xs (a - 1) (omega arith))
+
+pub place-by_number : (xs : List ℕ) (a : ℕ) → RisesFrom 0 xs → 0 < a → a ≤ length xs → get_or xs (a - 1) 0 ≡ a → a ≡ place xs a
+place-by_number xs a r p l e =
+    let same : a ≡ suc (a - 1) = omega arith in
+    same ∙ sym (place-at 0 xs (a - 1) r (omega arith)) ∙ ap (place xs) e
 
 -- ---- how many atoms there are
 

@@ -46,6 +46,8 @@ odd_loop_is_program = record {
   edges = tt;
   levels = tt;
   priorities = tt;
+  priorities_fit = tt;
+  nodes = tt;
   shows = tt;
 }
 

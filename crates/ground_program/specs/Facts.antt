@@ -18,6 +18,10 @@ abbrev pub RisesFrom : ℕ → List ℕ → Type 0
 RisesFrom low [] = ⊤
 RisesFrom low (x ∷ xs) = (low < x) × RisesFrom x xs
 
+-- the numbers that priorities and nodes have: those of 32 bits
+abbrev pub IsPriority : ℤ → Type 0
+IsPriority p = (neg_ℤ (pos (2 ^ 31)) ≤ℤ p) × (p <ℤ pos (2 ^ 31))
+
 -- priorities fall
 abbrev pub FallsFrom : ℤ → List Level → Type 0
 FallsFrom high [] = ⊤
@@ -75,8 +79,10 @@ pub record IsProgram (P : Ground) : Type 0 where
   pub rules : AllByRecursion (RuleFits (Among P.atoms)) P.rules
   pub required : LiteralsFit (Among P.atoms) P.required
   pub edges : AllByRecursion (λ edge. ConditionFits (Among P.atoms) edge.condition) P.edges
+  pub nodes : AllByRecursion (λ edge. IsPriority edge.from × IsPriority edge.to) P.edges
   pub levels : AllByRecursion (LevelFits (Among P.atoms)) P.levels
   pub priorities : FallsFrom (pos (2 ^ 31)) P.levels
+  pub priorities_fit : AllByRecursion (λ level. IsPriority level.priority) P.levels
   pub shows : AllByRecursion (ShowFits (Among P.atoms)) P.shows
 
 -- what is true of all that was added to a program
@@ -84,7 +90,8 @@ pub record IsDraft (d : Draft) : Type 0 where
   pub rules : AllByRecursion (RuleFits IsAtom) d.rules
   pub required : LiteralsFit IsAtom d.required
   pub edges : AllByRecursion (λ edge. ConditionFits IsAtom edge.condition) d.edges
+  pub nodes : AllByRecursion (λ edge. IsPriority edge.from × IsPriority edge.to) d.edges
   pub levels : AllByRecursion (LevelFits IsAtom) d.levels
-  pub priorities : AllByRecursion (λ level. level.priority <ℤ pos (2 ^ 31)) d.levels
+  pub priorities : AllByRecursion (λ level. IsPriority level.priority) d.levels
   pub shows : AllByRecursion (ShowFits IsAtom) d.shows
   pub externals : AllByRecursion (λ set. IsAtom set.0) d.externals

@@ -1,11 +1,16 @@
+pub mod Broken
 pub mod Closed
 pub mod Draft
 pub mod Externals
 pub mod Facts
+pub mod Faithful
 pub mod Falling
+pub mod Fresh
+pub mod Gaps
 pub mod Ground
 pub mod Inside
 pub mod InsideDraft
+pub mod InsideFresh
 pub mod Negative
 pub mod Occurrences
 pub mod Reading

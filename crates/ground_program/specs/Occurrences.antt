@@ -1,7 +1,9 @@
 -- The atoms that occur in the parts of a program, and their rising list.
 use Rattle.std.specs.Prelude.{ℕ, suc, ℤ, cond, ◌==◌, nat_lt, List, [], ◌∷◌, ◌++◌, map}
 use Rattle.asp_base.specs.Literal.{Literal, atom_of}
+use Rattle.std.specs.List.{flat_map}
 use Rattle.asp_base.specs.Sets.{members}
+use Rattle.ground_program.specs.Ground.{Ground}
 use Rattle.ground_program.specs.declared.program.Head.{Head}
 use Rattle.ground_program.specs.declared.program.Head.TheVariants.{Nothing, One, Choice}
 use Rattle.ground_program.specs.declared.program.Body.{Body}
@@ -40,3 +42,12 @@ rising (a ∷ as_) = into_rising a (rising as_)
 abbrev pub place : List ℕ → ℕ → ℕ
 place [] a = 0
 place (x ∷ xs) a = cond (x == a) 1 (cond (members xs a) (suc (place xs a)) 0)
+
+-- every atom that occurs in a part of a program
+abbrev pub atoms_of_parts : Ground → List ℕ
+atoms_of_parts P =
+    flat_map atoms_of_rule P.rules
+    ++ (atoms_of_literals P.required
+    ++ (flat_map (λ edge. atoms_of_literals edge.condition) P.edges
+    ++ (flat_map (λ level. atoms_of_items level.items) P.levels
+    ++ flat_map (λ show. atoms_of_literals show.condition) P.shows)))

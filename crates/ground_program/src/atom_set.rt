@@ -4,6 +4,7 @@ ghost use Rattle.asp_base.specs.Sets.{members};
 ghost use Rattle.ground_program.specs.Occurrences.{rising};
 
 use crate::lists::AtomList;
+use crate::places::stands_by_number;
 use asp_base::Memory;
 use std::alloc::Global;
 use std::marker::Model;
@@ -33,8 +34,8 @@ impl AtomSet {
         Ok(AtomSet::of_vec(atoms.to_vec(alloc)?))
     }
 
-    /// The set of the given atoms, in their memory.
-    pub(crate) fn of_vec(atoms: Vec<u32>) -> AtomSet
+    /// The set of the given atoms, which may stand in any order and repeat; it keeps their memory.
+    pub fn of_vec(atoms: Vec<u32>) -> AtomSet
         ensures { result ≡ rising atoms.items }
     {
         AtomSet {
@@ -45,7 +46,7 @@ impl AtomSet {
     pub fn contains(&self, atom: u32) -> bool
         ensures { result ≡ members self.now atom }
     {
-        self.items.binary_search(&atom).is_ok()
+        stands_by_number(self.items.as_slice(), atom) || self.items.binary_search(&atom).is_ok()
     }
 
     /// The atoms in ascending order.

@@ -1,12 +1,18 @@
 //! Laws of stable models, each the contract of a function that does nothing.
 
-ghost use Rattle.std.specs.Prelude.{◌≡◌, ◌↔◌, []};
+ghost use Rattle.std.specs.Prelude.{◌≡◌, ◌↔◌, ℕ, ◌+◌, ◌<◌, ◌≤◌, true, false, List, [], ◌++◌, length};
+ghost use Rattle.std.specs.List.{list_any};
+ghost use Rattle.asp_base.specs.Literal.{all_hold};
 ghost use Rattle.asp_base.specs.Sets.{Set, members, Same, Within};
+ghost use Rattle.asp_base.specs.Walks.{Acyclic};
+ghost use Rattle.ground_program.specs.Broken.{breaks};
 ghost use Rattle.ground_program.specs.Closed.{Closed, Weighed};
 ghost use Rattle.ground_program.specs.Facts.{IsProgram};
+ghost use Rattle.ground_program.specs.Faithful.{Covers, Faithful};
+ghost use Rattle.ground_program.specs.Fresh.{IsLeastFree, given_by, new_atom};
 ghost use Rattle.ground_program.specs.Ground.{Ground};
 ghost use Rattle.ground_program.specs.Negative.{HasNegativeBodies};
-ghost use Rattle.ground_program.specs.Stable.{least, step, Stable, Supported};
+ghost use Rattle.ground_program.specs.Stable.{joined, least, step, Stable, Supported};
 
 /// The least model of the reduct by a set is the intersection of the sets that are closed under the
 /// rules of the reduct: it is closed itself, and lies within each closed set. It is a fixpoint of the
@@ -29,4 +35,28 @@ pub fn stable_model_has_atoms_of_program()
 pub fn stable_is_supported_without_positive_literals()
     ensures supported { (P : Ground) (M : Set) → HasNegativeBodies P.rules → Stable P M → Supported P M }
     ensures same { (P : Ground) (M : Set) → HasNegativeBodies P.rules → P.edges ≡ [] → Stable P M ↔ Supported P M }
+{}
+
+/// A set breaks a rule where the body holds in it and the head asks for what it does not have. The least model of the
+/// reduct by a set that breaks no rule lies within the set. Where the set lies within the least model too, has the
+/// required literals and gives a graph without cycle, it is a stable model. A stable model breaks no rule.
+pub fn stable_if_nothing_is_broken()
+    ensures within { (P : Ground) (M : Set) → IsProgram P → list_any (λ rule. breaks rule M) P.rules ≡ false → Within (least P M) M }
+    ensures stable { (P : Ground) (M : Set) → IsProgram P → list_any (λ rule. breaks rule M) P.rules ≡ false → Within M (least P M) → all_hold P.required M M ≡ true → Acyclic (joined P.edges M) → Stable P M }
+    ensures unbroken { (P : Ground) (M : Set) → IsProgram P → Stable P M → list_any (λ rule. breaks rule M) P.rules ≡ false }
+{}
+
+/// Where a second program stands for a first one and a third one for the second, the third one stands for the first.
+pub fn faithful_programs_compose()
+    ensures covers { (P N Q : Ground) → Within (members P.atoms) (members N.atoms) → Covers P N → Covers N Q → Covers P Q }
+    ensures faithful { (P N Q : Ground) → Within (members P.atoms) (members N.atoms) → Faithful P N → Faithful N Q → Faithful P Q }
+{}
+
+/// Each new atom is the least positive number that is no atom and was not given before. So new atoms rise, none is an
+/// atom, and none is above the number of the atoms and of the new atoms up to it.
+pub fn new_atoms_are_new()
+    ensures least { (atoms : List ℕ) (n : ℕ) → IsLeastFree (given_by n atoms ++ atoms) (new_atom atoms n) }
+    ensures rise { (atoms : List ℕ) (i j : ℕ) → i < j → new_atom atoms i < new_atom atoms j }
+    ensures new { (atoms : List ℕ) (n : ℕ) → members atoms (new_atom atoms n) ≡ false }
+    ensures most { (atoms : List ℕ) (n : ℕ) → new_atom atoms n ≤ length atoms + n + 1 }
 {}

@@ -4,11 +4,13 @@
 mod atom_set;
 mod builder;
 mod externals;
+mod fresh;
 mod gather;
 pub mod laws;
 mod levels;
 mod lists;
 mod measure;
+mod occurring;
 mod places;
 mod program;
 mod reading;
@@ -17,8 +19,10 @@ mod tests;
 
 pub use atom_set::AtomSet;
 pub use builder::{External, ProgramBuilder};
-pub use lists::{AtomList, ItemList, LitList};
+pub use fresh::FreshAtoms;
+pub use lists::{AtomList, CostList, ItemList, LitList};
 pub use measure::size;
+pub use occurring::occurring_atoms;
 pub use places::{place_among, variable};
 pub use program::{
     Body, Edge, EdgeList, Head, Level, LevelList, Program, Rule, RuleList, Show, ShowList,

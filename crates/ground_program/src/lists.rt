@@ -148,3 +148,31 @@ impl ItemList {
         self.items.as_slice()
     }
 }
+
+/// Costs.
+#[derive(Debug, Drop)]
+pub struct CostList {
+    items: Vec<i128>,
+}
+
+impl Model for CostList {
+    ghost use Rattle.std.specs.Prelude.{List, ℤ};
+
+    ghost Value = { List ℤ };
+
+    ghost view = { λ l. l.items.items };
+}
+
+impl CostList {
+    pub fn from_vec(items: Vec<i128>) -> CostList
+        ensures { result ≡ items.items }
+    {
+        CostList { items }
+    }
+
+    pub fn as_slice(&self) -> &[i128]
+        ensures { result.now ≡ self.now }
+    {
+        self.items.as_slice()
+    }
+}

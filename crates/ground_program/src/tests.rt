@@ -123,3 +123,15 @@ fn makes_a_set(rt: HostRuntime) -> Result<(), Fail> {
     assert_eq!(rt; set.into_list().as_slice().len(), 3);
     Ok(())
 }
+
+#[test]
+fn gives_new_atoms(rt: HostRuntime) -> Result<(), Fail> {
+    let program = built(rt.alloc())?;
+    assert!(rt; program.atoms.as_slice().len() < 100);
+    let mut fresh = FreshAtoms::new(rt.alloc(), &program)?;
+    assert_eq!(rt; fresh.next(), 1);
+    assert_eq!(rt; fresh.next(), 10);
+    assert_eq!(rt; fresh.next(), 14);
+    assert_eq!(rt; fresh.next(), 15);
+    Ok(())
+}
