@@ -1,5 +1,8 @@
 pub mod FieldText
+pub mod Fronts
+pub mod LinePieces
 pub mod NameEnds
 pub mod NoFeed
 pub mod PastBlank
 pub mod SoFar
+pub mod Spacing

@@ -1,3 +1,4 @@
 pub mod Feeds
+pub mod FieldWords
 pub mod Fields
 pub mod Weights
