@@ -6,12 +6,15 @@ ghost use Rattle.aspif_format.specs.Aspif.{aspif_of};
 ghost use Rattle.ground_program.specs.Reading.{Refuses};
 
 mod header;
+pub mod laws;
 mod parts;
 mod statement;
 mod text;
+mod written;
 
 use crate::header::header_line;
 use crate::text::statements;
+pub use crate::written::write;
 use asp_scan::Scan;
 use ground_program::{Program, ProgramBuilder, ReadRefusal};
 use std::alloc::Global;

@@ -1,4 +1,4 @@
-use crate::read;
+use crate::{read, write};
 use asp_base::Memory;
 use ground_program::{Head, Level, ReadKind, ReadRefusal, Rule, Show};
 use std::alloc::Global;
@@ -100,5 +100,22 @@ fn reads_a_table_of_texts(rt: HostRuntime) -> Result<(), Fail> {
     expect_rules(&rt, program.rules.as_slice());
     expect_levels(&rt, program.levels.as_slice());
     expect_shows(&rt, program.shows.as_slice());
+    Ok(())
+}
+
+/// A text with every part, as it is written.
+fn written_text() -> &'static [u8] {
+    b"asp 1 0 0\n1 0 1 1 0 1 -2\n1 1 2 1 2 0 0\n1 0 0 1 -3 2 1 4 -2 5\n2 2 2 1 4 -2 -5\n2 1 1 1 3\n2 -7 0\n4 5 a b)c 1 1\n4 1 d 0\n8 5 -6 1 1\n6 2 -2 3\n5 7 2\n0\n"
+}
+
+#[test]
+fn writes_what_is_read_back(rt: HostRuntime) -> Result<(), Fail> {
+    let alloc = rt.alloc();
+    let program = read(alloc, written_text())?;
+    let mut out = Vec::new(alloc);
+    out.push(b'x')?;
+    write(alloc, &program, &mut out)?;
+    assert_eq!(rt; &out[..1], b"x".as_slice());
+    assert_eq!(rt; &out[1..], written_text());
     Ok(())
 }
