@@ -1,0 +1,20 @@
+use Rattle.std.proofs.Common.{◌≡◌, ◌≤◌, ◌+◌, ◌^◌, List, Result, length}
+use Rattle.asp_scan.specs.Lines.{Line}
+use Rattle.ground_program.specs.Draft.{Draft}
+use Rattle.ground_program.specs.Reading.{Fault}
+use Rattle.statement_fields.specs.Feeds.{HaveNoFeed}
+use Rattle.smodels_format.specs.Smodels.{part, rule_entry}
+use Rattle.smodels_format.proofs.text.rules.Given as goal
+
+abbrev pub invariant-lines : goal.invariant-lines
+invariant-lines l = record {
+  same : (next : Draft → List Line → Result Draft Fault)
+      → part rule_entry next l.scan.last l.builder l.scan.ahead ≡ part rule_entry next l.initial.scan.last l.initial.builder l.initial.scan.ahead;
+  last : l.scan.last ≡ l.initial.scan.last;
+  no_feed : HaveNoFeed l.scan.ahead;
+  counted : l.levels ≡ length l.builder.levels;
+  few : l.levels + length l.scan.ahead ≤ 2 ^ 31;
+}
+
+abbrev pub decreases-lines : goal.decreases-lines
+decreases-lines l = length l.scan.ahead

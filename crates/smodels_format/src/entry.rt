@@ -1,0 +1,186 @@
+ghost use Rattle.std.specs.Prelude.{◌≡◌, ◌≢◌, ℕ, pos, List, Result, Ok, Err, IfOk, OnOk, IfErr, IfSome};
+ghost use Rattle.ground_program.specs.Draft.{Draft};
+ghost use Rattle.ground_program.specs.Facts.{IsAtom};
+ghost use Rattle.ground_program.specs.declared.reading.ReadKind.{ReadKind};
+ghost use Rattle.statement_fields.specs.Feeds.{HasNoFeed};
+ghost use Rattle.statement_fields.specs.Fields.{Faults};
+ghost use Rattle.smodels_format.specs.Smodels.{unless_zero, symbol_name, symbol_entry, required_entry, heading, number_of_models};
+ghost use Rattle.smodels_format.specs.Steps.{signed, said, behind_atom, begun, atom_in, symbol_behind, required_behind};
+
+use crate::sign::Sign;
+use asp_base::{ByteList, Lit};
+use asp_scan::Scan;
+use ground_program::{LitList, ProgramBuilder, ReadKind, Show};
+use statement_fields::{FieldFault, ended, number, word};
+use std::alloc::Global;
+
+/// What a line of a part was that has entries of atoms.
+#[derive(Clone, Copy)]
+pub enum EntryLine {
+    Entry,
+    End,
+}
+
+const GREATEST_ATOM: u64 = 1 << 30;
+
+/// The atom that begins an entry, or None at the 0 that ends its part, which is alone in its line.
+fn entry_atom(scan: &mut Scan<'_>) -> Result<Option<u32>, ReadKind>
+    ensures ok { IfOk result (λ first. (entry : ℕ × List ℕ → Result Draft ReadKind) → unless_zero scan.old.left (behind_atom entry scan.old.left) ≡ begun first scan.new.left entry) }
+    ensures err { IfErr result (λ kind. (entry : ℕ × List ℕ → Result Draft ReadKind) → unless_zero scan.old.left (behind_atom entry scan.old.left) ≡ Err kind) }
+    ensures fits { IfOk result (λ first. IfSome first (λ a. IsAtom a)) }
+    ensures rest { scan.new ≡ record scan.old { left = scan.new.left } }
+    ensures no_feed { HasNoFeed scan.old.left → HasNoFeed scan.new.left }
+{
+    let n = number(scan)?;
+    if n == 0 {
+        ended(scan)?;
+        return Ok(None);
+    }
+    Ok(Some(atom_of(n)?))
+}
+
+/// The atom that a number is. Refused with the faults of `statement_fields::atom`.
+fn atom_of(n: i64) -> Result<u32, ReadKind>
+    requires { n ≢ pos 0 }
+    ensures ok { IfOk result (λ a. (line : List ℕ) → atom_in n line ≡ Ok (a, line)) }
+    ensures err { IfErr result (λ kind. (line : List ℕ) → atom_in n line ≡ Err kind) }
+    ensures fits { IfOk result (λ a. IsAtom a) }
+{
+    if n < 0 {
+        return Err(ReadKind::BadNumber);
+    }
+    if n as u64 > GREATEST_ATOM {
+        return Err(ReadKind::AtomTooLarge);
+    }
+    Ok(n as u32)
+}
+
+/// A line of the symbol table: an atom and its name, which is shown where the atom is true, or the 0 that ends the table.
+pub fn symbol_line(
+    alloc: Global,
+    scan: &mut Scan<'_>,
+    builder: &mut ProgramBuilder,
+) -> Result<EntryLine, FieldFault>
+    requires { HasNoFeed scan.old.left }
+    ensures ok { IfOk result (λ line. symbol_entry builder.old scan.old.left ≡ Ok (said line builder.new)) }
+    ensures err { IfErr result (λ fault. Faults (symbol_entry builder.old scan.old.left) fault) }
+    ensures end { IfOk result (λ line. line ≡ EntryLine.End → builder.new ≡ builder.old) }
+    ensures rest { scan.new ≡ record scan.old { left = scan.new.left } }
+{
+    match entry_atom(scan)? {
+        None => Ok(EntryLine::End),
+        Some(atom) => {
+            symbol(alloc, scan, builder, atom)?;
+            Ok(EntryLine::Entry)
+        }
+    }
+}
+
+fn symbol(
+    alloc: Global,
+    scan: &mut Scan<'_>,
+    builder: &mut ProgramBuilder,
+    atom: u32,
+) -> Result<(), FieldFault>
+    requires atom { IsAtom atom }
+    requires no_feed { HasNoFeed scan.old.left }
+    ensures ok { OnOk result (symbol_behind builder.old (atom, scan.old.left) ≡ Ok builder.new) }
+    ensures err { IfErr result (λ fault. Faults (symbol_behind builder.old (atom, scan.old.left)) fault) }
+    ensures rest { scan.new ≡ record scan.old { left = scan.new.left } }
+{
+    let name = symbol_name(alloc, scan)?;
+    let condition = LitList::from_slice(alloc, &[Lit::positive(atom)])?;
+    builder.add_show(Show { name, condition })?;
+    Ok(())
+}
+
+/// The rest of the line behind its blanks.
+fn symbol_name(alloc: Global, scan: &mut Scan<'_>) -> Result<ByteList, FieldFault>
+    requires { HasNoFeed scan.old.left }
+    ensures ok { IfOk result (λ name. symbol_name scan.old.left ≡ Ok name) }
+    ensures err { IfErr result (λ fault. Faults (symbol_name scan.old.left) fault) }
+    ensures no_feed { IfOk result (λ name. HasNoFeed name) }
+    ensures rest { scan.new ≡ record scan.old { left = scan.new.left } }
+{
+    if scan.next_bytes(0).is_none() && scan.end_of_line() {
+        return Err(FieldFault::Kind(ReadKind::Missing));
+    }
+    let name = scan.rest();
+    if name.is_empty() {
+        return Err(FieldFault::Kind(ReadKind::BadName));
+    }
+    copy(alloc, name)
+}
+
+fn copy(alloc: Global, bytes: &[u8]) -> Result<ByteList, FieldFault>
+    ensures ok { IfOk result (λ name. name ≡ bytes.now) }
+    ensures err { IfErr result (λ fault. fault ≡ FieldFault.Memory) }
+{
+    let mut name = Vec::new(alloc);
+    match name.extend_from_slice(bytes) {
+        Ok(()) => Ok(ByteList::from_vec(name)),
+        Err(_) => Err(FieldFault::Memory),
+    }
+}
+
+/// A line of the atoms that are required to be true, or to be false: an atom alone, or the 0 that ends them.
+pub fn required_line(
+    scan: &mut Scan<'_>,
+    builder: &mut ProgramBuilder,
+    sign: Sign,
+) -> Result<EntryLine, FieldFault>
+    ensures ok { IfOk result (λ line. required_entry (signed sign) builder.old scan.old.left ≡ Ok (said line builder.new)) }
+    ensures err { IfErr result (λ fault. Faults (required_entry (signed sign) builder.old scan.old.left) fault) }
+    ensures end { IfOk result (λ line. line ≡ EntryLine.End → builder.new ≡ builder.old) }
+    ensures rest { scan.new ≡ record scan.old { left = scan.new.left } }
+{
+    match entry_atom(scan)? {
+        None => Ok(EntryLine::End),
+        Some(atom) => {
+            required(scan, builder, sign, atom)?;
+            Ok(EntryLine::Entry)
+        }
+    }
+}
+
+fn required(
+    scan: &Scan<'_>,
+    builder: &mut ProgramBuilder,
+    sign: Sign,
+    atom: u32,
+) -> Result<(), FieldFault>
+    requires { IsAtom atom }
+    ensures ok { OnOk result (required_behind sign builder.old (atom, scan.now.left) ≡ Ok builder.new) }
+    ensures err { IfErr result (λ fault. Faults (required_behind sign builder.old (atom, scan.now.left)) fault) }
+{
+    ended(scan)?;
+    builder.add_required(sign.of(atom))?;
+    Ok(())
+}
+
+/// This word alone in its line.
+pub fn heading(scan: &mut Scan<'_>, text: &[u8]) -> Result<(), ReadKind>
+    ensures ok { OnOk result (heading text.now scan.old.left ≡ Ok scan.new.left) }
+    ensures err { IfErr result (λ kind. heading text.now scan.old.left ≡ Err kind) }
+    ensures rest { scan.new ≡ record scan.old { left = scan.new.left } }
+{
+    word(scan, text)?;
+    if scan.end_of_line() {
+        Ok(())
+    } else {
+        Err(ReadKind::BadHeader)
+    }
+}
+
+/// How many models were asked for, which is not used.
+pub fn number_of_models(scan: &mut Scan<'_>) -> Result<(), ReadKind>
+    ensures ok { OnOk result ((draft : Draft) → number_of_models draft scan.old.left ≡ Ok draft) }
+    ensures err { IfErr result (λ kind. (draft : Draft) → number_of_models draft scan.old.left ≡ Err kind) }
+    ensures rest { scan.new ≡ record scan.old { left = scan.new.left } }
+{
+    let n = number(scan)?;
+    if n < 0 {
+        return Err(ReadKind::BadNumber);
+    }
+    ended(scan)
+}
