@@ -1,0 +1,9 @@
+pub mod AtomsText
+pub mod Gathering
+pub mod Growth
+pub mod Lack
+pub mod Links
+pub mod Names
+pub mod Parts
+pub mod UnderWay
+pub mod Verdicts
