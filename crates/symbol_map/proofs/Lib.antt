@@ -1,5 +1,3 @@
-mod Blanks
-mod Fronts
 mod LineEntries
 mod LinesSoFar
 pub mod MapRoundTrip

@@ -5,7 +5,7 @@ use Rattle.std.proofs.lemmas.Bool.{ltb-true, true≢false}
 use Rattle.std.proofs.lemmas.Int.{ints}
 use Rattle.asp_base.specs.Literal.{atom_of}
 use Rattle.asp_scan.specs.Scanning.{Scanning}
-use Rattle.ground_program.specs.Facts.{IsAtom, IsShort, FallsFrom, LevelFits, ShowFits}
+use Rattle.ground_program.specs.Facts.{IsAtom, IsShort, IsPriority, FallsFrom, LevelFits, ShowFits}
 use Rattle.ground_program.specs.declared.program.Level.{Level}
 use Rattle.ground_program.specs.declared.program.Show.{Show}
 use Rattle.statement_fields.specs.Feeds.{HaveNoFeed}
@@ -93,6 +93,7 @@ grows-place vars (Atoms a) m place g fits next =
         shows = g.is_map.shows;
         levels = g.is_map.levels;
         priorities = g.is_map.priorities;
+        priorities_fit = g.is_map.priorities_fit;
       };
       same = g.same;
       reached = (up-push a m.atoms place g.reached.0 rises, g.reached.1);
@@ -109,6 +110,7 @@ grows-show vars stage m show g fits next = record {
     shows = fit-push (ShowFits (IsVariable m.vars)) m.shows show g.is_map.shows (subst (λ n. ShowFits (IsVariable n) show) (sym g.same) fits);
     levels = g.is_map.levels;
     priorities = g.is_map.priorities;
+    priorities_fit = g.is_map.priorities_fit;
   };
   same = g.same;
   reached = by stage g.reached next;
@@ -130,7 +132,7 @@ grows-priorities (Levels p) m level reached next falls high =
 
 grows-level : (vars : ℕ) (stage : Stage) (m : Symbols) (level : Level) → Grows vars stage m → EntryFits vars (Leveled level) → is_next stage (Leveled level) ≡ true → Grows vars (Levels level.priority) (put (Leveled level) m)
 grows-level vars stage m level g fits next =
-    let falls : FallsFrom (pos (2 ^ 31)) (m.levels ++ (level ∷ [])) × LevelsDownTo level.priority (m.levels ++ (level ∷ [])) = grows-priorities stage m level g.reached next g.is_map.priorities fits.0 in
+    let falls : FallsFrom (pos (2 ^ 31)) (m.levels ++ (level ∷ [])) × LevelsDownTo level.priority (m.levels ++ (level ∷ [])) = grows-priorities stage m level g.reached next g.is_map.priorities fits.0.1 in
     record {
       is_map = record {
         vars = g.is_map.vars;
@@ -139,6 +141,7 @@ grows-level vars stage m level g fits next =
         shows = g.is_map.shows;
         levels = fit-push (λ x. IsShort x.items × LevelFits (IsVariable m.vars) x) m.levels level g.is_map.levels (subst (λ n. IsShort level.items × LevelFits (IsVariable n) level) (sym g.same) fits.1);
         priorities = falls.0;
+        priorities_fit = fit-push (λ x. IsPriority x.priority) m.levels level g.is_map.priorities_fit fits.0;
       };
       same = g.same;
       reached = falls.1;
@@ -187,7 +190,7 @@ LinesSoFar-start f vars start m small no_feed is = subst (λ x. LinesSoFar f var
   last = refl;
   no_feed = no_feed;
   form = refl;
-  grows = record { is_map = record { vars = omega arith; atoms_rise = tt; atoms = tt; shows = tt; levels = tt; priorities = tt }; same = refl; reached = (tt, refl) };
+  grows = record { is_map = record { vars = omega arith; atoms_rise = tt; atoms = tt; shows = tt; levels = tt; priorities = tt; priorities_fit = tt }; same = refl; reached = (tt, refl) };
 })
 
 module _ {f : Form} {vars : ℕ} {start now : Scanning} {stage : Stage} {m : Symbols} (h : LinesSoFar f vars start now stage m) where

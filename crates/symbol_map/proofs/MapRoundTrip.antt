@@ -1,5 +1,5 @@
 -- A map's text is read as that map.
-use Rattle.std.proofs.Common.{◌≡◌, refl, ◌∙◌, ap, ℕ, suc, ◌-◌, ◌^◌, ◌≤◌, ◌<◌, nat_lt, ℤ, pos, neg_ℤ, nat_abs, ◌≤ℤ◌, ◌<ℤ◌, int_lt, true, ◌||◌, List, [], ◌∷◌, ◌++◌, map, length, append_assoc, Option, Some, None, Result, Ok, Err, decimal, codes, arith}
+use Rattle.std.proofs.Common.{◌≡◌, refl, ◌∙◌, ap, ℕ, suc, ◌-◌, ◌^◌, ◌≤◌, ◌<◌, nat_lt, ℤ, pos, nat_abs, ◌<ℤ◌, int_lt, true, ◌||◌, List, [], ◌∷◌, ◌++◌, map, length, append_assoc, Option, Some, None, Result, Ok, Err, decimal, codes, arith}
 use Rattle.std.specs.Prelude.{⊤}
 use Rattle.std.specs.Fmt.{signed_decimal}
 use Rattle.std.specs.List.{AllByRecursion, flat_map}
@@ -12,7 +12,7 @@ use Rattle.asp_scan.specs.Words.{spaced, line_of, is_line, IsLine, IsWord}
 use Rattle.asp_scan.proofs.LineText.{IsLine-append, numbered-written}
 use Rattle.asp_scan.proofs.NumberText.{signed-word, IsShort-from_fits, decimal-word}
 use Rattle.asp_scan.proofs.WordText.{token_at-word, spaced-line, spaced-not_blank, word-stays, IsWord-bytes}
-use Rattle.ground_program.specs.Facts.{IsShort, FitsWeight, FallsFrom, LevelFits, ShowFits}
+use Rattle.ground_program.specs.Facts.{IsShort, IsPriority, FitsWeight, FallsFrom, LevelFits, ShowFits}
 use Rattle.ground_program.specs.declared.program.Level.{Level}
 use Rattle.ground_program.specs.declared.program.Show.{Show}
 use Rattle.ground_program.specs.declared.reading.ReadKind.{ReadKind}
@@ -31,7 +31,8 @@ use Rattle.symbol_map.specs.declared.entry.Stage.TheVariants.{Atoms, Shows, Leve
 use Rattle.symbol_map.specs.EntryFacts.{PlaceFits}
 use Rattle.symbol_map.specs.MapText.{Fault, fault, form_of, form_next, form, variables, header, over, item_over, place, show, level, entry_of, entry, is_next, stage_of, before, entries, empty_map, from_lines, map_of}
 use Rattle.symbol_map.proofs.LineEntries.{line-entry}
-use Rattle.symbol_map.specs.MapWriting.{form_word, literal_word, literal_words, item_words, place_line, show_line, level_line, map_text}
+use Rattle.statement_fields.specs.FieldWords.{literal_word, literal_words, item_words}
+use Rattle.symbol_map.specs.MapWriting.{form_word, place_line, show_line, level_line, map_text}
 use Rattle.symbol_map.specs.Symbols.{Symbols}
 
 -- ---- the header
@@ -138,15 +139,14 @@ show-read vars v x h =
 record LevelKnown (vars : ℕ) (level : Level) : Type 0 where
   short : IsShort level.items
   items : AllByRecursion (ItemOver vars) level.items
-  low : neg_ℤ (pos (2 ^ 31)) ≤ℤ level.priority
-  high : level.priority <ℤ pos (2 ^ 31)
+  priority : IsPriority level.priority
 
 level-read : (vars : ℕ) → vars ≤ 2 ^ 31 - 1 → (x : Level) → LevelKnown vars x → entry vars (codes "level" ++ behind (level_words x)) ≡ Ok (Some (Leveled x))
 level-read vars v x h =
     let k3 : List (Literal × ℤ) × List ℕ → Result Level ReadKind = λ items. ended (record { priority = x.priority; items = items.0 }) items.1 in
     let k2 : ℤ × List ℕ → Result Level ReadKind = λ priority. counted (item_over vars) priority.1 >>= λ items. ended (record { priority = priority.0; items = items.0 }) items.1 in
     let whole : level vars (behind (level_words x)) ≡ Ok x =
-    ap (λ r. r >>= k2) (small-read x.priority (item_words x.items) h.low h.high) ∙ ap (λ r. r >>= k3) (items-read vars v x.items h.short h.items) in
+    ap (λ r. r >>= k2) (small-read x.priority (item_words x.items) h.priority.0 h.priority.1) ∙ ap (λ r. r >>= k3) (items-read vars v x.items h.short h.items) in
     entry-word vars (codes "level") (level_words x) refl ∙ ap (λ (r : Result Level ReadKind). r >>= λ p. Ok (Some (Leveled p))) whole
 
 -- ---- lines of words
@@ -195,7 +195,7 @@ items-line vars v (x ∷ items) h =
 level-line : (vars : ℕ) → vars ≤ 2 ^ 31 - 1 → (level : Level) → LevelKnown vars level → AllByRecursion IsWord (codes "level" ∷ level_words level)
 level-line vars v level h =
     let short : length level.items ≤ 2 ^ 24 = h.short in
-    (refl, (signed-is_word level.priority (small-size level.priority h.low h.high), (decimal-is_word (length level.items) (omega arith), items-line vars v level.items h.items)))
+    (refl, (signed-is_word level.priority (small-size level.priority h.priority.0 h.priority.1), (decimal-is_word (length level.items) (omega arith), items-line vars v level.items h.items)))
 
 -- ---- the lines of a map in turn
 
@@ -305,20 +305,16 @@ shows-over : (vars : ℕ) (shows : List Show) → AllByRecursion (ShowFits (IsVa
 shows-over vars [] h names = tt
 shows-over vars (show ∷ shows) h names = ((h.0, names.0), shows-over vars shows h.1 names.1)
 
-levels-over : (vars : ℕ) (high : ℤ) → high ≤ℤ pos (2 ^ 31) → (levels : List Level) → AllByRecursion (λ level. IsShort level.items × LevelFits (IsVariable vars) level) levels → FallsFrom high levels
-    → AllByRecursion (λ level. neg_ℤ (pos (2 ^ 31)) ≤ℤ level.priority) levels → AllByRecursion (LevelKnown vars) levels
-levels-over vars high most [] h falls low = tt
-levels-over vars high most (level ∷ levels) h falls low = (
-  record { short = h.0.0; items = h.0.1; low = low.0; high = omega (arith, ints, falls.0, most) },
-  levels-over vars level.priority (omega (arith, ints, falls.0, most)) levels h.1 falls.1 low.1,
-)
+levels-over : (vars : ℕ) (levels : List Level) → AllByRecursion (λ level. IsShort level.items × LevelFits (IsVariable vars) level) levels → AllByRecursion (λ level. IsPriority level.priority) levels → AllByRecursion (LevelKnown vars) levels
+levels-over vars [] h fit = tt
+levels-over vars (level ∷ levels) h fit = (record { short = h.0.0; items = h.0.1; priority = fit.0 }, levels-over vars levels h.1 fit.1)
 
-pub map-read : (m : Symbols) → IsMap m → AllByRecursion (λ show. length show.name < 2 ^ 63) m.shows → AllByRecursion (λ level. neg_ℤ (pos (2 ^ 31)) ≤ℤ level.priority) m.levels → map_of (map_text m) ≡ Ok m
-map-read m h names low =
+pub map-read : (m : Symbols) → IsMap m → AllByRecursion (λ show. length show.name < 2 ^ 63) m.shows → map_of (map_text m) ≡ Ok m
+map-read m h names =
     let last : ℕ = end_line (map_text m) in
     let words : List (List ℕ) = codes "1" ∷ form_word m.form ∷ decimal m.vars ∷ [] in
     let text : List ℕ = flat_map place_line m.atoms ++ (flat_map show_line m.shows ++ (flat_map level_line m.levels ++ line_of (codes "end" ∷ []))) in
-    let over_levels : AllByRecursion (LevelKnown m.vars) m.levels = levels-over m.vars (pos (2 ^ 31)) (omega (arith, ints)) m.levels h.levels h.priorities low in
+    let over_levels : AllByRecursion (LevelKnown m.vars) m.levels = levels-over m.vars m.levels h.levels h.priorities_fit in
     ap (from_lines last) (line-front 1 (codes "map") words text refl (spaced-line (codes "map" ∷ words) (header-words m.form m.vars h.vars)))
     ∙ (ap (λ r. elim r as (λ x. Result Symbols Fault) [
       | Err kind ↦ fault 1 kinds.BadHeader

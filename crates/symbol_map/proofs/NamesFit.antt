@@ -1,5 +1,5 @@
 -- The names of a map whose text fits memory fit it too, so that such a text is read back.
-use Rattle.std.proofs.Common.{◌≡◌, ap, ℕ, ◌<◌, ◌≤◌, ◌+◌, ◌^◌, pos, neg_ℤ, ◌≤ℤ◌, List, [], ◌∷◌, ◌++◌, length, codes, decimal, Result, Ok, Err, OnOk, arith}
+use Rattle.std.proofs.Common.{◌≡◌, ap, ℕ, ◌<◌, ◌≤◌, ◌+◌, ◌^◌, List, [], ◌∷◌, ◌++◌, length, codes, decimal, Result, Ok, Err, OnOk, arith}
 use Rattle.std.proofs.Common.{length-append}
 use Rattle.std.specs.List.{AllByRecursion, flat_map}
 use Rattle.asp_scan.specs.Words.{spaced, line_of}
@@ -7,7 +7,8 @@ use Rattle.ground_program.specs.declared.program.Show.{Show}
 use Rattle.symbol_map.specs.Symbols.{Symbols}
 use Rattle.symbol_map.specs.IsMap.{IsMap}
 use Rattle.symbol_map.specs.MapText.{map_of}
-use Rattle.symbol_map.specs.MapWriting.{show_line, literal_words, map_text, header_line, place_line, level_line}
+use Rattle.statement_fields.specs.FieldWords.{literal_words}
+use Rattle.symbol_map.specs.MapWriting.{show_line, map_text, header_line, place_line, level_line}
 use Rattle.symbol_map.proofs.MapRoundTrip.{map-read}
 
 -- the middle of a list is no longer than the list
@@ -63,9 +64,9 @@ names-short m h =
 
 -- what was appended in memory, the text of a map, is read as that map
 pub appended-read : {T E : Type 0} (r : Result T E) (m : Symbols) (old new : List ℕ) → length new < 2 ^ 63 → OnOk r (IsMap m) → OnOk r (new ≡ old ++ map_text m)
-    → OnOk r (AllByRecursion (λ level. neg_ℤ (pos (2 ^ 31)) ≤ℤ level.priority) m.levels → (text : List ℕ) × (new ≡ old ++ text) × (map_of text ≡ Ok m))
+    → OnOk r ((text : List ℕ) × (new ≡ old ++ text) × (map_of text ≡ Ok m))
 appended-read (Err x) m old new short fits e = tt
 appended-read (Ok x) m old new short fits e =
     let whole : length new ≡ length (old ++ map_text m) = ap length e in
     let part : length (map_text m) ≤ length (old ++ map_text m) = behind old (map_text m) in
-    λ low. (map_text m, e, map-read m fits (names-short m (omega arith)) low)
+    (map_text m, e, map-read m fits (names-short m (omega arith)))

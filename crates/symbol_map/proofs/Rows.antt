@@ -1,5 +1,5 @@
 -- Small map texts, by computation.
-use Rattle.std.proofs.Common.{◌≡◌, refl, List, [], ◌∷◌, codes, pos, negsuc}
+use Rattle.std.proofs.Common.{◌≡◌, refl, [], ◌∷◌, codes, pos, negsuc}
 use Rattle.std.specs.Fmt.{digits}
 use Rattle.asp_base.specs.Literal.{Pos, Neg}
 use Rattle.symbol_map.specs.declared.map.Form.TheVariants.{Cnf, Wcnf}

@@ -1,7 +1,7 @@
 -- What is true of every entry of a map, and what an entry adds.
-use Rattle.std.specs.Prelude.{ℕ, pos, ◌^◌, ◌<ℤ◌, [], ◌∷◌, ◌++◌}
+use Rattle.std.specs.Prelude.{ℕ, [], ◌∷◌, ◌++◌}
 use Rattle.asp_base.specs.Literal.{atom_of}
-use Rattle.ground_program.specs.Facts.{IsAtom, IsShort, LevelFits, ShowFits}
+use Rattle.ground_program.specs.Facts.{IsAtom, IsShort, IsPriority, LevelFits, ShowFits}
 use Rattle.ground_program.specs.declared.program.Level.{Level}
 use Rattle.symbol_map.specs.declared.entry.Entry.{Entry}
 use Rattle.symbol_map.specs.declared.entry.Entry.TheVariants.{Atom, Shown, Leveled}
@@ -14,7 +14,7 @@ PlaceFits vars place = IsAtom place.atom × IsVariable vars (atom_of place.lit)
 
 -- the level's priority has 32 bits
 abbrev pub LevelOver : ℕ → Level → Type 0
-LevelOver vars level = (level.priority <ℤ pos (2 ^ 31)) × (IsShort level.items × LevelFits (IsVariable vars) level)
+LevelOver vars level = IsPriority level.priority × (IsShort level.items × LevelFits (IsVariable vars) level)
 
 abbrev pub EntryFits : ℕ → Entry → Type 0
 EntryFits vars (Atom place) = PlaceFits vars place

@@ -2,7 +2,7 @@
 use Rattle.std.specs.Prelude.{ℕ, pos, ◌<◌, ◌≤◌, ◌^◌, ◌-◌, List, [], ◌∷◌, ⊤}
 use Rattle.std.specs.List.{AllByRecursion}
 use Rattle.asp_base.specs.Literal.{atom_of}
-use Rattle.ground_program.specs.Facts.{IsAtom, IsShort, FallsFrom, LevelFits, ShowFits}
+use Rattle.ground_program.specs.Facts.{IsAtom, IsShort, IsPriority, FallsFrom, LevelFits, ShowFits}
 use Rattle.symbol_map.specs.declared.map.Place.{Place}
 use Rattle.symbol_map.specs.Symbols.{Symbols}
 
@@ -22,3 +22,4 @@ pub record IsMap (m : Symbols) : Type 0 where
   pub shows : AllByRecursion (ShowFits (IsVariable m.vars)) m.shows
   pub levels : AllByRecursion (λ level. IsShort level.items × LevelFits (IsVariable m.vars) level) m.levels
   pub priorities : FallsFrom (pos (2 ^ 31)) m.levels
+  pub priorities_fit : AllByRecursion (λ level. IsPriority level.priority) m.levels

@@ -85,7 +85,7 @@ show vars line = do
   condition ← counted (over vars) text.1
   ended (record { name = text.0; condition = condition.0 }) condition.1
 
--- level P N L1 W1 .. LN WN, behind its word
+-- level P N l1 w1 .. ln wn, behind its word
 abbrev pub level : ℕ → List ℕ → Result Level ReadKind
 level vars line = do
   priority ← small line

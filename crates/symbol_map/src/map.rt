@@ -49,8 +49,8 @@ impl PlaceList {
 }
 
 /// What the variables of a formula mean for a program: the literals of its shows and levels are the formula's.
-/// Each literal's variable is from 1 to `vars`, at most 2^31 - 1; atoms rise, priorities fall; each condition and level
-/// has at most 2^24 entries; no name has a line feed.
+/// Each literal's variable is from 1 to `vars`, at most 2^31 - 1; atoms rise; priorities have 32 bits and fall; each
+/// condition and level has at most 2^24 entries; no name has a line feed.
 #[derive(Drop)]
 pub struct SymbolMap {
     pub form: Form,

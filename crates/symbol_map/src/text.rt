@@ -1,20 +1,19 @@
-ghost use Rattle.std.specs.Prelude.{◌≡◌, ◌^◌, ◌++◌, ◌∷◌, ℕ, pos, neg_ℤ, ◌≤ℤ◌, List, length, take, Ok, OnOk, OnErr};
-ghost use Rattle.std.specs.List.{AllByRecursion, flat_map};
-ghost use Rattle.std.specs.Fmt.{decimal, signed_decimal};
+ghost use Rattle.std.specs.Prelude.{◌≡◌, ◌^◌, ◌++◌, ◌∷◌, ℕ, List, length, take, Ok, OnOk, OnErr};
+ghost use Rattle.std.specs.List.{flat_map};
 ghost use Rattle.symbol_map.specs.IsMap.{IsMap};
 ghost use Rattle.symbol_map.specs.MapText.{map_of};
-ghost use Rattle.symbol_map.specs.MapWriting.{literal_piece, item_piece, name_front, priority_front, header_line, place_line, show_line, level_line, map_text};
+ghost use Rattle.symbol_map.specs.MapWriting.{name_front, priority_front, header_line, place_line, show_line, level_line, map_text};
 
 use crate::map::{Form, Place, SymbolMap};
-use asp_base::{Lit, Memory};
-use asp_scan::push_number;
+use asp_base::Memory;
 use ground_program::{Level, Show};
+use statement_fields::{push_count, push_field, push_items, push_literals};
 
 /// Appends the text of a map. After `Memory` the text is as it was.
 pub fn write(map: &SymbolMap, out: &mut Vec<u8>) -> Result<(), Memory>
     ensures ok { OnOk result (out.new.items ≡ out.old.items ++ map_text map.now) }
-    // What is appended is read as this map; priorities have 32 bits, as in memory.
-    ensures read_back { OnOk result (AllByRecursion (λ level. neg_ℤ (pos (2 ^ 31)) ≤ℤ level.priority) map.now.levels → (text : List ℕ) × (out.new.items ≡ out.old.items ++ text) × (map_of text ≡ Ok map.now)) }
+    // What is appended is read as this map.
+    ensures read_back { OnOk result ((text : List ℕ) × (out.new.items ≡ out.old.items ++ text) × (map_of text ≡ Ok map.now)) }
     ensures err { OnErr result (out.new.items ≡ out.old.items) }
 {
     let before = out.len();
@@ -50,7 +49,7 @@ fn push_header(map: &SymbolMap, out: &mut Vec<u8>) -> Result<(), Memory>
         Form::Wcnf => b"map 1 wcnf".as_slice(),
     };
     out.extend_from_slice(start)?;
-    push_next(map.vars.into(), out)?;
+    push_field(out, map.vars.into())?;
     out.push(b'\n')?;
     Ok(())
 }
@@ -70,8 +69,8 @@ fn push_place(place: &Place, out: &mut Vec<u8>) -> Result<(), Memory>
     ensures err { OnErr result (take (length out.old.items) out.new.items ≡ out.old.items) }
 {
     out.extend_from_slice(b"atom")?;
-    push_next(place.atom.into(), out)?;
-    push_next(place.lit.value().into(), out)?;
+    push_field(out, place.atom.into())?;
+    push_field(out, place.lit.value().into())?;
     out.push(b'\n')?;
     Ok(())
 }
@@ -90,10 +89,8 @@ fn push_show(show: &Show, out: &mut Vec<u8>) -> Result<(), Memory>
     ensures ok { OnOk result (out.new.items ≡ out.old.items ++ show_line show.now) }
     ensures err { OnErr result (take (length out.old.items) out.new.items ≡ out.old.items) }
 {
-    let lits = show.condition.as_slice();
     push_name(show.name.as_slice(), out)?;
-    push_count(lits.len(), out)?;
-    push_literals(lits, out)?;
+    push_literals(out, show.condition.as_slice())?;
     out.push(b'\n')?;
     Ok(())
 }
@@ -104,7 +101,7 @@ fn push_name(name: &[u8], out: &mut Vec<u8>) -> Result<(), Memory>
     ensures err { OnErr result (take (length out.old.items) out.new.items ≡ out.old.items) }
 {
     out.extend_from_slice(b"show")?;
-    push_count(name.len(), out)?;
+    push_count(out, name.len())?;
     out.push(b' ')?;
     out.extend_from_slice(name)?;
     Ok(())
@@ -124,10 +121,8 @@ fn push_level(level: &Level, out: &mut Vec<u8>) -> Result<(), Memory>
     ensures ok { OnOk result (out.new.items ≡ out.old.items ++ level_line level.now) }
     ensures err { OnErr result (take (length out.old.items) out.new.items ≡ out.old.items) }
 {
-    let items = level.items.as_slice();
     push_priority(level, out)?;
-    push_count(items.len(), out)?;
-    push_items(items, out)?;
+    push_items(out, level.items.as_slice())?;
     out.push(b'\n')?;
     Ok(())
 }
@@ -137,52 +132,5 @@ fn push_priority(level: &Level, out: &mut Vec<u8>) -> Result<(), Memory>
     ensures err { OnErr result (take (length out.old.items) out.new.items ≡ out.old.items) }
 {
     out.extend_from_slice(b"level")?;
-    push_next(level.priority.into(), out)
-}
-
-/// Appends the literals, a blank before each.
-fn push_literals(lits: &[Lit], out: &mut Vec<u8>) -> Result<(), Memory>
-    ensures ok { OnOk result (out.new.items ≡ out.old.items ++ flat_map literal_piece lits.now) }
-    ensures err { OnErr result (take (length out.old.items) out.new.items ≡ out.old.items) }
-{
-    for lit in lits {
-        push_next(lit.value().into(), out)?;
-    }
-    Ok(())
-}
-
-/// Appends the literals and their weights, a blank before each.
-fn push_items(items: &[(Lit, i64)], out: &mut Vec<u8>) -> Result<(), Memory>
-    ensures ok { OnOk result (out.new.items ≡ out.old.items ++ flat_map item_piece items.now) }
-    ensures err { OnErr result (take (length out.old.items) out.new.items ≡ out.old.items) }
-{
-    for item in items {
-        push_item(item, out)?;
-    }
-    Ok(())
-}
-
-fn push_item(item: &(Lit, i64), out: &mut Vec<u8>) -> Result<(), Memory>
-    ensures ok { OnOk result (out.new.items ≡ out.old.items ++ item_piece item.now) }
-    ensures err { OnErr result (take (length out.old.items) out.new.items ≡ out.old.items) }
-{
-    push_next(item.0.value().into(), out)?;
-    push_next(item.1.into(), out)
-}
-
-/// Appends a number of bytes or entries, and a blank before it.
-fn push_count(count: usize, out: &mut Vec<u8>) -> Result<(), Memory>
-    ensures ok { OnOk result (out.new.items ≡ out.old.items ++ (32 ∷ decimal count)) }
-    ensures err { OnErr result (take (length out.old.items) out.new.items ≡ out.old.items) }
-{
-    push_next(count as i128, out)
-}
-
-/// Appends a number, and a blank before it.
-fn push_next(value: i128, out: &mut Vec<u8>) -> Result<(), Memory>
-    ensures ok { OnOk result (out.new.items ≡ out.old.items ++ (32 ∷ signed_decimal value)) }
-    ensures err { OnErr result (take (length out.old.items) out.new.items ≡ out.old.items) }
-{
-    out.push(b' ')?;
-    push_number(out, value)
+    push_field(out, level.priority.into())
 }

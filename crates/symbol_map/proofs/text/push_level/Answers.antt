@@ -1,11 +1,15 @@
-use Rattle.std.proofs.Common.{◌≡◌, ◌∙◌, sym, ap, ◌++◌}
-use Rattle.symbol_map.proofs.Blanks.{level_pieces, level_line_pieces, four_pieces}
+use Rattle.std.proofs.Common.{◌≡◌, ◌∙◌, ap, ◌∷◌, [], ◌++◌, codes}
+use Rattle.std.specs.Fmt.{signed_decimal}
+use Rattle.statement_fields.specs.FieldWords.{item_words, spaced_before}
+use Rattle.statement_fields.proofs.LinePieces.{three_appends, front_more-line}
+use Rattle.symbol_map.specs.MapWriting.{priority_front}
 use Rattle.symbol_map.proofs.text.push_level.Goals as goal
 
 pub returns-clause-ok : goal.returns-clause-ok
 returns-clause-ok c =
     let old = c.args.out.now.items in
     let level = c.args.level.now in
-    let items : c.as_slice-items.result.now ≡ level.items = c.as_slice-items.ensures in
-    four_pieces old _ _ _ _ _ _ _ _ c.in_ok-push_priority.ensures.ok c.in_ok-push_count.ensures.ok c.in_ok-push_items.ensures.ok c.in_ok-push.ensures.items
-    ∙ ap (λ bytes. old ++ bytes) (ap (level_pieces level.priority) items ∙ sym (level_line_pieces level))
+    let items : c.as_slice.result.now ≡ level.items = c.as_slice.ensures in
+    three_appends old _ _ _ _ _ _ c.in_ok-push_priority.ensures.ok c.in_ok-push_items.ensures.ok c.in_ok-push.ensures.items
+    ∙ ap (λ bytes. old ++ bytes) (ap (λ items. priority_front level.priority ++ (spaced_before (item_words items) ++ (10 ∷ []))) items
+    ∙ front_more-line (codes "level") (signed_decimal level.priority) (item_words level.items))
