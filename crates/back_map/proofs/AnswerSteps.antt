@@ -1,5 +1,5 @@
 -- The answer at the end of a text.
-use Rattle.std.proofs.Common.{◌≡◌, refl, sym, ◌∙◌, ap, ℕ, List, Option, None, get_or, Result, Ok, Err, IfOk}
+use Rattle.std.proofs.Common.{◌≡◌, refl, sym, ◌∙◌, ap, ℕ, List, None, get_or, Result, Ok, Err, IfOk}
 use Rattle.asp_scan.specs.Lines.{lines_of, end_line}
 use Rattle.back_map.specs.AnswerText.{Fault, Heard, Answered, heard_from, silence, with_end, answer_of}
 use Rattle.back_map.specs.Reading.{Hears, HearsOk, Answers, AnswersOk}

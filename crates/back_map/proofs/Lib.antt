@@ -1,10 +1,6 @@
 mod AnswerRows
 mod AnswerSteps
-mod Costs
-mod Each
-mod FirstOnes
 mod LineSteps
-mod LineTokens
 mod Numerals
 mod Shows
 mod StatusWords

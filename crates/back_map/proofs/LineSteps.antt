@@ -14,7 +14,7 @@ use Rattle.back_map.specs.declared.answer.Status.{Status}
 use Rattle.back_map.specs.declared.answer.Status.TheVariants.{Satisfied, Unsatisfiable, Unknown}
 use Rattle.back_map.specs.declared.hearing.Hearing.{Hearing}
 use Rattle.back_map.proofs.Steps.{Reaches, Reaches-start, Reaches-next, Reaches-ok, Reaches-err, ok-as, err-as}
-use Rattle.back_map.proofs.LineTokens.{tokens-some}
+use Rattle.asp_scan.proofs.LineTokens.{tokens-some}
 use Rattle.back_map.proofs.Numerals.{Numbered, numbered, number-bad}
 
 -- ---- words that are no status

@@ -1,12 +1,12 @@
 -- The numbers of a line, one at a time.
-use Rattle.std.proofs.Common.{◌≡◌, refl, sym, ◌∙◌, ap, ℕ, ℤ, Bool, true, false, cond, List, [], ◌∷◌, Option, Some, None, IsSome, Result, Ok, Err}
+use Rattle.std.proofs.Common.{◌≡◌, refl, sym, ◌∙◌, ap, ℕ, ℤ, Bool, true, false, cond, List, [], Option, Some, None, IsSome, Result, Ok, Err}
 use Rattle.asp_scan.specs.Tokens.{token_at, tokens, integer_of, fits_i64, checked, with_rest, number_at}
 use Rattle.asp_scan.specs.declared.scan.ScanFault.{ScanFault}
 use Rattle.asp_scan.specs.declared.scan.ScanFault.TheVariants.{Missing, TooWide}
 use Rattle.back_map.specs.AnswerText.{Heard, number_of, with_number, with_numbers}
 use Rattle.back_map.specs.declared.answer.AnswerKind.{AnswerKind}
 use Rattle.back_map.specs.declared.answer.AnswerKind.TheVariants as kinds
-use Rattle.back_map.proofs.LineTokens.{tokens-some, tokens-none}
+use Rattle.asp_scan.proofs.LineTokens.{tokens-some, tokens-none}
 
 checked-ok : (o : Option ℤ) (left : List ℕ) (n : ℤ) (rest : List ℕ) → with_rest (checked o) left ≡ Ok (n, rest)
     → (elim o as (λ x. Option ℤ) [ None ↦ None | Some m ↦ cond (fits_i64 m) (Some m) None ] ≡ Some n) × ((left ≡ rest) × (o ≡ Some n))

@@ -3,7 +3,7 @@ use Rattle.std.proofs.Common.{◌≡◌, refl, sym, ◌∙◌, ap, ℕ, Bool, Li
 use Rattle.asp_scan.specs.Tokens.{token_at, tokens}
 use Rattle.back_map.specs.AnswerText.{status_of}
 use Rattle.back_map.specs.declared.answer.Status.{Status}
-use Rattle.back_map.proofs.LineTokens.{tokens-some, tokens-none}
+use Rattle.asp_scan.proofs.LineTokens.{tokens-some, tokens-none}
 
 pub one-word : (first line : List ℕ) (result : Option (Status × Bool)) → token_at line ≡ None → result ≡ status_of (first ∷ []) → result ≡ status_of (first ∷ tokens line)
 one-word first line result none is = is ∙ ap (λ ts. status_of (first ∷ ts)) (sym (tokens-none line none))

@@ -1,12 +1,11 @@
 -- What was heard, step by step, beside what the reader keeps.
-use Rattle.std.proofs.Common.{◌≡◌, ◌≢◌, refl, sym, ◌∙◌, ap, subst, ℕ, ℤ, pos, Bool, true, false, cond, Option, Some, None, Result, Ok, Err, OnOk, IfErr}
+use Rattle.std.proofs.Common.{◌≡◌, ◌≢◌, refl, sym, ◌∙◌, ap, subst, ℕ, ℤ, pos, Bool, true, false, Some, Result, Ok, Err, OnOk, IfErr}
 use Rattle.std.specs.Ordering.{int_eq}
-use Rattle.std.proofs.lemmas.Bool.{cond-true, cond-false}
+use Rattle.std.proofs.lemmas.Bool.{cond-false}
 use Rattle.std.proofs.lemmas.Bool.Decides.{Decides-int_eq}
-use Rattle.back_map.specs.AnswerText.{Heard, with_literal, with_number, with_numbers}
+use Rattle.back_map.specs.AnswerText.{Heard, with_literal, with_number}
 use Rattle.back_map.specs.Reading.{Hears, HearsOk, Follows, Faults}
 use Rattle.back_map.specs.declared.answer.AnswerKind.{AnswerKind}
-use Rattle.back_map.specs.declared.answer.AnswerKind.TheVariants as kinds
 use Rattle.back_map.specs.declared.hearing.Hearing.{Hearing}
 
 not_zero : (n : ℤ) → n ≢ pos 0 → int_eq n (pos 0) ≡ false

@@ -1,9 +1,8 @@
 -- What the lines of a text add.
-use Rattle.std.proofs.Common.{◌≡◌, refl, sym, ◌∙◌, ap, ℕ, List, [], ◌∷◌, Result, Ok, Err}
+use Rattle.std.proofs.Common.{◌≡◌, sym, ◌∙◌, ap, ℕ, List, [], ◌∷◌, Result, Ok, Err}
 use Rattle.asp_scan.specs.Lines.{Line}
 use Rattle.asp_scan.specs.Scanning.{Scanning, next, at_lines}
 use Rattle.back_map.specs.AnswerText.{Fault, Heard, with_line, heard_from}
-use Rattle.back_map.specs.declared.answer.AnswerKind.{AnswerKind}
 
 -- the next line, and those behind it
 pub heard-next : (vars : ℕ) (lines after later : List Line) (line : Line) → lines ≡ line ∷ later → after ≡ later → (h : Heard)

@@ -1,6 +1,6 @@
 -- What a solver's answer says, or its first fault. (The output of SAT and MaxSAT competitions: status lines `s ..`, literals on
 -- lines `v ..`; and that of solvers that write `SAT` and the literals on a line of their own.)
-use Rattle.std.specs.Prelude.{ℕ, zero, suc, nat_lt, ℤ, pos, nat_abs, Bool, true, false, cond, not, ◌&&◌, ◌||◌, List, [], ◌∷◌, ◌++◌, Option, Some, None, Result, Ok, Err, codes}
+use Rattle.std.specs.Prelude.{ℕ, nat_lt, ℤ, pos, nat_abs, Bool, true, false, cond, ◌&&◌, ◌||◌, List, [], ◌∷◌, ◌++◌, Option, Some, None, Result, Ok, Err, codes}
 use Rattle.std.specs.List.{list_any}
 use Rattle.std.specs.Ordering.{int_eq}
 use Rattle.std.specs.Str.{bytes_eq}

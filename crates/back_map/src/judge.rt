@@ -1,4 +1,4 @@
-ghost use Rattle.std.specs.Prelude.{◌≡◌, ◌≤◌, ◌^◌, pos, neg_ℤ, ◌≤ℤ◌, cond, [], length, map, IfOk, IfErr};
+ghost use Rattle.std.specs.Prelude.{◌≡◌, ◌≤◌, ◌^◌, pos, neg_ℤ, ◌≤ℤ◌, cond, [], length, IfOk, IfErr};
 ghost use Rattle.std.specs.List.{AllByRecursion};
 ghost use Rattle.asp_base.specs.Literal.{atom_of};
 ghost use Rattle.ground_program.specs.Facts.{FitsWeight, IsShort, LevelFits};
@@ -9,11 +9,10 @@ ghost use Rattle.symbol_map.specs.IsMap.{IsVariable};
 ghost use Rattle.symbol_map.specs.Restrict.{names};
 ghost use Rattle.back_map.specs.Judging.{JudgedAs, RefusedAs};
 
-use crate::seen::{CostList, NameList, Seen};
-use asp_base::{ByteList, Lit, Memory};
+use asp_base::{Lit, Memory};
 use clause_store::{Assignment, Formula};
-use ground_program::Level;
-use indexmap::IndexSet;
+use ground_program::{CostList, Level};
+use stable_check::{NameSet, Seen};
 use std::alloc::Global;
 use symbol_map::SymbolMap;
 
@@ -90,28 +89,17 @@ fn shown_names<'a>(
     alloc: Global,
     symbols: &'a SymbolMap,
     values: &Assignment,
-) -> Result<IndexSet<&'a [u8]>, Memory>
+) -> Result<NameSet<'a>, Memory>
     requires { length values.now ≡ symbols.now.vars }
-    ensures { IfOk result (λ set. map (λ name. name.now) set.keys ≡ names symbols.now (true_in values.now)) }
+    ensures { IfOk result (λ shown. shown ≡ names symbols.now (true_in values.now)) }
 {
-    let mut shown = IndexSet::new(alloc);
+    let mut shown = NameSet::new(alloc);
     for (i, show) in symbols.shows.as_slice().iter().enumerate() {
         if symbols.shown(values, i as u64 + 1) {
             shown.insert(show.name.as_slice())?;
         }
     }
     Ok(shown)
-}
-
-/// Names of their own.
-fn copies(alloc: Global, names: &[&[u8]]) -> Result<NameList, Memory>
-    ensures { IfOk result (λ list. list ≡ map (λ name. name.now) names.now) }
-{
-    let mut list = Vec::new(alloc);
-    for name in names {
-        list.push(ByteList::from_vec(Vec::from_slice(alloc, *name)?))?;
-    }
-    Ok(NameList::from_vec(list))
 }
 
 /// Judges an assignment of a formula's variables: the place of the first clause that it makes false, or, where there is
@@ -138,7 +126,7 @@ pub fn back(
     if let Some(place) = formula.first_false(values) {
         return Ok(Judged::FalseClause(place));
     }
-    let names = copies(alloc, shown_names(alloc, map, values)?.as_slice())?;
+    let names = shown_names(alloc, map, values)?.copies(alloc)?;
     let costs = costs(alloc, map.levels.as_slice(), values)?;
     Ok(Judged::Accepted(Seen { names, costs }))
 }

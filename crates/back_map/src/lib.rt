@@ -7,7 +7,6 @@ mod answer_value;
 mod hearing;
 mod judge;
 mod read_answer_text;
-mod seen;
 mod status;
 mod true_variables;
 
@@ -15,7 +14,6 @@ pub use answer::{AnswerKind, Status};
 pub use answer_value::{Answer, AnswerRefusal};
 pub use judge::{BackRefusal, Judged, back};
 pub use read_answer_text::read_answer;
-pub use seen::{CostList, NameList, Seen};
 
 #[cfg(test)]
 mod tests;

@@ -6,6 +6,9 @@ ghost use Rattle.back_map.specs.AnswerText.{status_of};
 use crate::answer::Status;
 use asp_scan::Scan;
 
+/// An optimum is a model.
+const OPTIMUM: Status = Status::Satisfied;
+
 /// The status of a line with this first word, and whether it is one without `s`, whose literals follow on a line of their own.
 pub fn line_status(scan: &mut Scan<'_>, first: &[u8]) -> Option<(Status, bool)>
     ensures status { result ≡ status_of (first.now ∷ tokens scan.old.left) }
@@ -58,7 +61,7 @@ fn of_three(first: &[u8], second: &[u8], third: &[u8]) -> Option<(Status, bool)>
     ensures { result ≡ status_of (first.now ∷ second.now ∷ third.now ∷ []) }
 {
     if first == b"s".as_slice() && second == b"OPTIMUM".as_slice() && third == b"FOUND".as_slice() {
-        Some((Status::Satisfied, false))
+        Some((OPTIMUM, false))
     } else {
         None
     }

@@ -3,9 +3,7 @@ use Rattle.std.proofs.lemmas.Int.{to_z-of_z}
 use Rattle.std.proofs.lemmas.Result.{err_from_is_err_and}
 use Rattle.asp_scan.specs.Tokens.{tokens}
 use Rattle.back_map.specs.AnswerText.{with_number, with_numbers}
-use Rattle.back_map.specs.declared.answer.AnswerKind.{AnswerKind}
-use Rattle.back_map.specs.declared.answer.AnswerKind.TheVariants as kinds
-use Rattle.std.proofs.Common.{Some, ℤ, sym, ◌∙◌}
+use Rattle.std.proofs.Common.{Some, sym, ◌∙◌}
 use Rattle.back_map.proofs.Steps.{Reaches-start, Reaches-next, Reaches-fails, Reaches-done}
 use Rattle.back_map.proofs.Numerals.{number-next, number-bad, no-number}
 use Rattle.back_map.proofs.answer_line.numbers.Goals as goal

@@ -8,14 +8,14 @@ use Rattle.ground_program.specs.Stable.{weight_of, costs_of}
 use Rattle.ground_program.specs.declared.program.Level.{Level}
 use Rattle.clause_store.specs.Assigned.{true_in}
 use Rattle.symbol_map.specs.IsMap.{IsVariable}
-use Rattle.back_map.proofs.Each.{each-at}
+use Rattle.stable_check.proofs.Each.{each-get}
 use Rattle.back_map.proofs.judge.costs.Goals as goal
 
 pub cost_of_items-requires-clause-fit : goal.cost_of_items-requires-clause-fit
 cost_of_items-requires-clause-fit c =
     let over = IsVariable (length c.args.values.now) in
     let fits : IsShort c.level-item.result.items × LevelFits over c.level-item.result =
-    rw c.level-item.is (each-at (λ (level : Level). IsShort level.items × LevelFits over level) c.args.levels.now c.loop-level.level-index c.level-item.result (omega arith) c.requires) in
+    rw c.level-item.is (each-get (λ (level : Level). IsShort level.items × LevelFits over level) c.args.levels.now c.loop-level.level-index c.level-item.result (omega arith) c.requires) in
     rw c.as_slice.ensures fits.1
 
 pub loop-level-preserved : goal.loop-level-preserved

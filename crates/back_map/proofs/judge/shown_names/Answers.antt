@@ -1,11 +1,10 @@
-use Rattle.std.proofs.Common.{◌≡◌, ◌∙◌, sym, ap, ap₂, ◌<◌, ◌+◌, [], ◌∷◌, ◌++◌, cond, List, length, map, take, get_or, Bor, ℕ}
+use Rattle.std.proofs.Common.{◌≡◌, ◌∙◌, sym, ap, ap₂, ◌<◌, List, length, get_or}
 use Rattle.std.proofs.lemmas.Bool.{cond-true, cond-false}
-use Rattle.std.proofs.lemmas.List.{take_more}
 use Rattle.asp_base.specs.Literal.{all_hold}
-use Rattle.ground_program.specs.Stable.{names_of}
 use Rattle.ground_program.specs.declared.program.Show.{Show}
 use Rattle.clause_store.specs.Assigned.{true_in}
-use Rattle.back_map.proofs.FirstOnes.{put_name, names_of-push, keys-put}
+use Rattle.stable_check.specs.Names.{put_name}
+use Rattle.stable_check.proofs.FirstOnes.{names_of-next}
 use Rattle.back_map.proofs.Shows.{test-at}
 use Rattle.back_map.proofs.judge.shown_names.Goals as goal
 use Rattle.back_map.proofs.judge.shown_names.Goals.{then-shown+in_ok-insert, else-shown}
@@ -20,14 +19,12 @@ loop-i-preserved c =
     let inside : i < length shows = rw (sym same) c.loop-i-test.true in
     let is : x ≡ get_or shows i x = c.show-item.is ∙ ap (λ (xs : List Show). get_or xs i x) same in
     let test : all_hold x.condition values values ≡ c.shown.result = test-at values shows i x _ inside is c.shown.ensures in
-    let next : names_of (take (i + 1) shows) values ≡ cond (all_hold x.condition values values) (put_name (names_of (take i shows) values) x.name) (names_of (take i shows) values) =
-    ap (λ (xs : List Show). names_of xs values) (take_more shows i x inside) ∙ ap (λ (y : Show). names_of (take i shows ++ (y ∷ [])) values) (sym is) ∙ names_of-push (take i shows) x values in
+    let next = names_of-next shows i x values inside is in
     elim c.if-shown.branch [
       | then-shown+in_ok-insert w ↦
-          ap (λ s. map (λ (name : Bor (List ℕ)). name.now) s.keys) w.shown-is
-          ∙ ap (λ keys. map (λ (name : Bor (List ℕ)). name.now) keys) w.in_ok-insert.ensures.keys
-          ∙ keys-put (λ (name : Bor (List ℕ)). name.now) c.loop-i.shown.keys w.as_slice.result
+          w.shown-is
+          ∙ w.in_ok-insert.ensures
           ∙ ap₂ put_name c.loop-i.invariant w.as_slice.ensures
           ∙ sym (next ∙ cond-true _ _ _ (test ∙ w.if-shown.true))
-      | else-shown w ↦ ap (λ s. map (λ (name : Bor (List ℕ)). name.now) s.keys) w.shown-is ∙ c.loop-i.invariant ∙ sym (next ∙ cond-false _ _ _ (test ∙ w.if-shown.false))
+      | else-shown w ↦ w.shown-is ∙ c.loop-i.invariant ∙ sym (next ∙ cond-false _ _ _ (test ∙ w.if-shown.false))
     ]

@@ -1,8 +1,7 @@
-use Rattle.std.proofs.Common.{rules, ap, sym}
+use Rattle.std.proofs.Common.{rules, ap}
 use Rattle.std.proofs.lemmas.Result.{err_from_is_err_and}
 use Rattle.asp_scan.specs.Scanning.{Scanning}
 use Rattle.back_map.specs.AnswerText.{with_line, heard_from}
-use Rattle.back_map.specs.Reading.{Faults}
 use Rattle.back_map.proofs.Steps.{Reaches-next, Reaches-fails, Reaches-done}
 use Rattle.back_map.proofs.TextSteps.{heard-next, heard-none}
 use Rattle.back_map.proofs.read_answer_text.hear.Goals as goal

@@ -1,4 +1,4 @@
-use Rattle.std.proofs.Common.{rules, ◌≡◌, ap, subst, sym, ◌∙◌}
+use Rattle.std.proofs.Common.{rules, ◌≡◌, ap, subst}
 use Rattle.asp_scan.specs.Lines.{lines_of, end_line}
 use Rattle.asp_scan.specs.Scanning.{Scanning}
 use Rattle.back_map.specs.AnswerText.{heard_from, silence}

@@ -1,5 +1,5 @@
-use Rattle.std.proofs.Common.{rules, ◌≡◌, ◌<◌, ◌≤◌, true, false, sym, ap, subst, List, ◌++◌, ◌∷◌, [], ℕ, arith}
-use Rattle.back_map.proofs.TrueVariables.{SoFar, SoFar-push, SoFar-skip, value_in}
+use Rattle.std.proofs.Common.{rules, ◌≡◌, ◌<◌, ◌≤◌, true, false, sym, ◌++◌, ◌∷◌, []}
+use Rattle.back_map.proofs.TrueVariables.{SoFar-push, SoFar-skip, value_in}
 use Rattle.back_map.proofs.true_variables.named_true.Goals as goal
 use Rattle.back_map.proofs.true_variables.named_true.Goals.{then-is_true+in_ok-push, else-is_true}
 
