@@ -67,10 +67,3 @@ built-no_edges P e =
     let parts : (list_all is_built_rule P.rules ≡ true) × ((has_none P.required && (has_none P.edges && has_none P.levels)) ≡ true) = and_parts _ _ e in
     let rest : (has_none P.required ≡ true) × ((has_none P.edges && has_none P.levels) ≡ true) = and_parts _ _ parts.1 in
     none-empty P.edges (and_parts _ _ rest.1).0
-
--- it has no levels
-pub built-no_levels : (P : Ground) → is_built P ≡ true → P.levels ≡ []
-built-no_levels P e =
-    let parts : (list_all is_built_rule P.rules ≡ true) × ((has_none P.required && (has_none P.edges && has_none P.levels)) ≡ true) = and_parts _ _ e in
-    let rest : (has_none P.required ≡ true) × ((has_none P.edges && has_none P.levels) ≡ true) = and_parts _ _ parts.1 in
-    none-empty P.levels (and_parts _ _ rest.1).1

@@ -6,7 +6,7 @@ use Rattle.std.proofs.lemmas.List.Sums.{sum_by-cons}
 use Rattle.asp_base.specs.Literal.{Literal, Pos, Neg, atom_of}
 use Rattle.clause_store.specs.Stored.{Stored, with_gate, find_known, after_conjunction}
 use Rattle.completion.specs.Completion.{over_variables, after_body, after_head, after_rules, inputs_of, atoms_only, completion}
-use Rattle.ground_program.specs.Facts.{RisesFrom, FallsFrom, IsAtom, IsShort, Among, LiteralsFit, LevelFits, ShowFits, FitsWeight, IsProgram}
+use Rattle.ground_program.specs.Facts.{RisesFrom, FallsFrom, IsAtom, IsShort, IsPriority, Among, LiteralsFit, LevelFits, ShowFits, FitsWeight, IsProgram}
 use Rattle.ground_program.specs.Ground.{Ground}
 use Rattle.ground_program.specs.Size.{size}
 use Rattle.ground_program.specs.declared.program.Head.{Head}
@@ -106,6 +106,7 @@ input_map-is_map P f small room =
       shows = each-renamed (show_over P.atoms) (ShowFits (Among P.atoms)) (ShowFits (IsVariable (completion P).vars)) (show-renamed P.atoms (completion P).vars enough) P.shows f.shows;
       levels = levels-renamed P.atoms (completion P).vars enough P.levels (levels_small P small) f.levels;
       priorities = falls-renamed P.atoms (pos (2 ^ 31)) P.levels f.priorities;
+      priorities_fit = each-renamed (level_over P.atoms) (λ level. IsPriority level.priority) (λ level. IsPriority level.priority) (λ level k. k) P.levels f.priorities_fit;
     }
 
 -- a map of these parts is one

@@ -1,7 +1,13 @@
+pub mod BackLaws
+pub mod BackTable
 pub mod BuiltLaws
+pub mod CheckTable
 pub mod InputMapLaws
 pub mod IsInputMap
+pub mod ReplyLaws
 pub mod Results
+pub mod SaidLaws
 pub mod SatLaws
+pub mod TakingLaws
 pub mod Translated
 pub mod Writing

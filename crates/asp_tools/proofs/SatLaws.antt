@@ -6,17 +6,21 @@ use Rattle.std.proofs.lemmas.Option.{IfSome_then}
 use Rattle.std.specs.Io.KnownBytes.{IsAtEnd}
 use Rattle.asp_base.specs.Desk.{DeskState, Rose}
 use Rattle.ground_program.specs.Ground.{Ground}
+use Rattle.ground_program.specs.Reading.{fault}
 use Rattle.ground_program.specs.Size.{size}
-use Rattle.aspif_format.specs.Aspif.{aspif_of}
+use Rattle.ground_program.specs.declared.reading.ReadKind.{ReadKind}
+use Rattle.asp_tools.specs.ProgramText.{program_of_text}
 use Rattle.asp_tools.specs.Built.{is_built}
 use Rattle.asp_tools.specs.Headline.{Translates}
-use Rattle.asp_tools.specs.Ran.{text_limit, size_limit, outcome_of_program, outcome_of_read, sat_outcome, HoldsProgram, OfTexts, IsFrontUnder, WroteNothing, SatDone, FormulaCut, MapCut, formula_text, symbols_text}
+use Rattle.asp_tools.specs.Ran.{size_limit, outcome_of_program, outcome_of_read, sat_outcome, HoldsProgram, CallsFor, OfTexts, IsFrontUnder, SatDone, FormulaCut, MapCut, formula_text, symbols_text}
+use Rattle.asp_tools.specs.Reads.{text_limit, WroteNothing}
+use Rattle.asp_tools.specs.Taking.{TookText}
 use Rattle.asp_tools.specs.Written.{WroteTwo, FailsToWriteText, SecondCut, CutAt}
 use Rattle.asp_tools.specs.declared.write.Cut.{Cut}
 use Rattle.asp_tools.specs.declared.write.Cut.TheVariants.{First, Second}
 use Rattle.asp_tools.specs.declared.outcome.Outcome.{Outcome}
 use Rattle.asp_tools.specs.declared.outcome.Outcome.TheVariants.{Done, Refused, TooLarge}
-use Rattle.asp_tools.specs.declared.outcome.Kind.TheVariants.{TextTooLong, NotBuilt}
+use Rattle.asp_tools.specs.declared.outcome.Kind.TheVariants.{TextTooLong, Text, NotBuilt}
 
 -- a program that is built, of a size within the limit, is translated
 pub done-of : (P : Ground) → is_built P ≡ true → size P ≤ 2 ^ 24 → outcome_of_program P ≡ Done
@@ -24,10 +28,23 @@ done-of P b l = cond-true (is_built P) (cond (nat_le (size P) size_limit) Done (
     ∙ cond-true (nat_le (size P) size_limit) Done (TooLarge (min (size P) (2 ^ 63))) (le-leb (size P) size_limit l)
 
 -- a text of a program calls for what its program does
-pub called : (held : Option (List ℕ)) (P : Ground) (o : Outcome) → IfSome held (λ text. (length text ≤ text_limit) × (aspif_of text ≡ Ok P)) → outcome_of_program P ≡ o
+pub called : (held : Option (List ℕ)) (P : Ground) (o : Outcome) → IfSome held (λ text. (length text ≤ text_limit) × (program_of_text text ≡ Ok P)) → outcome_of_program P ≡ o
     → IfSome held (λ text. sat_outcome text ≡ o)
 called held P o h e = IfSome_then held h
-    (λ text k. cond-false (nat_lt text_limit (length text)) (Refused 1 0 TextTooLong) (outcome_of_read (aspif_of text)) (le-ltb text_limit (length text) k.0) ∙ (ap outcome_of_read k.1 ∙ e))
+    (λ text k. cond-false (nat_lt text_limit (length text)) (Refused 1 0 TextTooLong) (outcome_of_read (program_of_text text)) (le-ltb text_limit (length text) k.0) ∙ (ap outcome_of_read k.1 ∙ e))
+
+-- a text that was taken, and the program that it gives or its first fault
+pub taken-holds : (old new : DeskState) (name text : List ℕ) (P : Ground) → TookText old new name text → program_of_text text ≡ Ok P → HoldsProgram old name P
+taken-holds old new name text P t read =
+    IfSome_then (old.held name) t.whole (λ content e. (subst (λ x. length x ≤ text_limit) e t.within, subst (λ x. program_of_text x ≡ Ok P) e read))
+
+pub taken-calls : (old new : DeskState) (name text : List ℕ) (line : ℕ) (kind : ReadKind) → TookText old new name text → program_of_text text ≡ fault line kind
+    → CallsFor old name (Refused 1 line (Text kind))
+taken-calls old new name text line kind t read =
+    IfSome_then (old.held name) t.whole (λ content e.
+    let short : length content ≤ text_limit = subst (λ x. length x ≤ text_limit) e t.within in
+    cond-false (nat_lt text_limit (length content)) (Refused 1 0 TextTooLong) (outcome_of_read (program_of_text content)) (le-ltb text_limit (length content) short)
+    ∙ ap outcome_of_read (subst (λ x. program_of_text x ≡ fault line kind) e read))
 
 -- ---- which writing failed
 
@@ -53,7 +70,7 @@ first A (Some x) (Some y) a = a
 
 -- the two texts of a program are such texts
 of_texts : (old : DeskState) (input output symbols : List ℕ) (P : Ground) (F : List ℕ → List ℕ → Type 0)
-    → HoldsProgram old input P → ((source : List ℕ) → aspif_of source ≡ Ok P → Translates source (formula_text P) (symbols_text P))
+    → HoldsProgram old input P → ((source : List ℕ) → program_of_text source ≡ Ok P → Translates source (formula_text P) (symbols_text P))
     → IfSome (old.made output) (λ _. IfSome (old.made symbols) (λ _. F (formula_text P) (symbols_text P))) → OfTexts old input output symbols F
 of_texts old input output symbols P F holds translates made =
     IfSome_then (old.held input) holds (λ source k. IfSome_then (old.made output) made (λ x a. IfSome_then (old.made symbols) a (λ y b. (formula_text P, symbols_text P, translates source k.1, b))))
@@ -70,7 +87,7 @@ moved-front old read new name text e h =
 
 module _ (old read new : DeskState) (input output symbols : List ℕ) (P : Ground)
     (holds : HoldsProgram old input P) (done : outcome_of_program P ≡ Done) (kept : WroteNothing old read)
-    (translates : (source : List ℕ) → aspif_of source ≡ Ok P → Translates source (formula_text P) (symbols_text P)) where
+    (translates : (source : List ℕ) → program_of_text source ≡ Ok P → Translates source (formula_text P) (symbols_text P)) where
   pub done-from : (read.reading ≡ Some input) × IsAtEnd read.left → read.writing ≡ None → WroteTwo read new output (formula_text P) symbols (symbols_text P) → SatDone old new input output symbols
   done-from whole idle w = record {
     read = (ap (λ s. s.reading) w.rest ∙ whole.0, subst IsAtEnd (sym (ap (λ s. s.left) w.rest)) whole.1);

@@ -1,7 +1,7 @@
 -- What `lp2sat` claims of the texts that it writes.
 use Rattle.std.specs.Prelude.{◌≡◌, ℕ, List, [], Ok}
 use Rattle.ground_program.specs.Ground.{Ground}
-use Rattle.aspif_format.specs.Aspif.{aspif_of}
+use Rattle.asp_tools.specs.ProgramText.{program_of_text}
 use Rattle.clause_store.specs.Clauses.{Clauses}
 use Rattle.dimacs_format.specs.Dimacs.{formula_of}
 use Rattle.symbol_map.specs.Symbols.{Symbols}
@@ -16,7 +16,7 @@ pub record Translates (source target table : List ℕ) : Type 0 where
   pub program : Ground
   pub formula : Clauses
   pub map : Symbols
-  pub read : aspif_of source ≡ Ok program
+  pub read : program_of_text source ≡ Ok program
   pub written : formula_of target ≡ Ok formula
   pub mapped : map_of table ≡ Ok map
   pub faithful : FaithfulMap program formula map

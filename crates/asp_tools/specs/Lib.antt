@@ -1,7 +1,14 @@
+pub mod BackAnswers
 pub mod Built
+pub mod CheckAnswers
 pub mod Headline
 pub mod InputMap
 pub mod Job
 pub mod Outcome
+pub mod ProgramText
 pub mod Ran
+pub mod Reads
+pub mod Replies
+pub mod Said
+pub mod Taking
 pub mod Written

@@ -1,27 +1,27 @@
 -- What a run answers, and what it leaves of its desk.
-use Rattle.std.specs.Prelude.{◌≡◌, ◌≢◌, ◌≤◌, ◌<◌, ◌⊎◌, ℕ, ◌^◌, nat_le, nat_lt, min, List, take, length, None, Some, IfSome, Result, Ok, Err, if◌then◌else◌}
+use Rattle.std.specs.Prelude.{◌≡◌, ◌≢◌, ◌≤◌, ◌<◌, ◌⊎◌, ℕ, ◌^◌, nat_le, nat_lt, min, List, [], ◌∷◌, take, length, None, Some, IfSome, Result, Ok, Err, if◌then◌else◌}
 use Rattle.std.specs.Io.KnownBytes.{IsAtEnd}
 use Rattle.asp_base.specs.Desk.{DeskState, Rose, Name}
 use Rattle.ground_program.specs.Ground.{Ground}
 use Rattle.ground_program.specs.Size.{size}
 use Rattle.ground_program.specs.Reading.{Fault}
-use Rattle.aspif_format.specs.Aspif.{aspif_of}
 use Rattle.dimacs_format.specs.CnfText.{cnf_text}
 use Rattle.symbol_map.specs.MapWriting.{map_text}
 use Rattle.completion.specs.Completion.{completion}
 use Rattle.asp_tools.specs.InputMap.{input_map}
 use Rattle.asp_tools.specs.Built.{is_built}
 use Rattle.asp_tools.specs.Headline.{Translates}
-use Rattle.asp_tools.specs.Job.{SeenJob, Sat}
+use Rattle.asp_tools.specs.Job.{SeenJob, Sat, Back, Check}
+use Rattle.asp_tools.specs.Reads.{text_limit, WroteNothing, FailsAtRead, NoFault}
+use Rattle.asp_tools.specs.Said.{SaidRan, SaidCompletes}
+use Rattle.asp_tools.specs.BackAnswers.{BackAnswers}
+use Rattle.asp_tools.specs.CheckAnswers.{CheckAnswers}
+use Rattle.asp_tools.specs.ProgramText.{program_of_text}
 use Rattle.asp_tools.specs.declared.outcome.Outcome.{Outcome}
-use Rattle.asp_tools.specs.declared.outcome.Outcome.TheVariants.{Done, BadWords, Refused, TooLarge, ReadFault, WriteFault, Memory}
+use Rattle.asp_tools.specs.declared.outcome.Outcome.TheVariants.{Done, BadWords, Refused, Rejected, NoModelGiven, TooLarge, ReadFault, WriteFault, Memory}
 use Rattle.asp_tools.specs.declared.outcome.Kind.TheVariants.{TextTooLong, Text, NotBuilt}
 
 -- ---- the outcome that a text calls for
-
--- a text has at most so many bytes
-abbrev pub text_limit : ℕ
-text_limit = 2 ^ 30
 
 -- a program that is translated has at most this size
 abbrev pub size_limit : ℕ
@@ -38,30 +38,13 @@ outcome_of_read (Err fault) = Refused 1 fault.line (Text fault.kind)
 -- Of the answers that a text of IN can call for the first that applies: too long, its first fault, not built yet, too large; done
 -- where none does.
 abbrev pub sat_outcome : List ℕ → Outcome
-sat_outcome text = if nat_lt text_limit (length text) then Refused 1 0 TextTooLong else outcome_of_read (aspif_of text)
+sat_outcome text = if nat_lt text_limit (length text) then Refused 1 0 TextTooLong else outcome_of_read (program_of_text text)
 
 -- ---- what a run leaves
 
--- no output was begun, and nothing was said
-pub record WroteNothing (old new : DeskState) : Type 0 where
-  pub made : new.made ≡ old.made
-  pub writing : new.writing ≡ old.writing
-  pub said : new.said ≡ old.said
-  pub write_faults : new.write_faults ≡ old.write_faults
-
--- the reading of the name failed
-pub record FailsAtRead (old new : DeskState) (name : List ℕ) : Type 0 where
-  pub rose : Rose old.read_faults new.read_faults
-  pub place : new.read_failed ≡ Name name
-
--- the reading of the name gave more bytes than the limit
-pub record IsTooLong (new : DeskState) (name : List ℕ) : Type 0 where
-  pub given : text_limit < new.given
-  pub reading : new.reading ≡ Some name
-
 -- the program that the text of the name gives, where the text is told, is this one, and the text is within the limit
 abbrev pub HoldsProgram : DeskState → List ℕ → Ground → Type 0
-HoldsProgram old input P = IfSome (old.held input) (λ text. (length text ≤ text_limit) × (aspif_of text ≡ Ok P))
+HoldsProgram old input P = IfSome (old.held input) (λ text. (length text ≤ text_limit) × (program_of_text text ≡ Ok P))
 
 -- the text that is under the name, where it is told, calls for this outcome
 abbrev pub CallsFor : DeskState → List ℕ → Outcome → Type 0
@@ -119,6 +102,8 @@ abbrev pub Stopped : List ℕ → DeskState → DeskState → Outcome → Type 0
 Stopped input old new Done = ⊥
 Stopped input old new BadWords = ⊥
 Stopped input old new (Refused file line kind) = CallsFor old input (Refused file line kind) × WroteNothing old new
+Stopped input old new (Rejected why) = ⊥
+Stopped input old new NoModelGiven = ⊥
 Stopped input old new (TooLarge number) = CallsFor old input (TooLarge number) × WroteNothing old new
 Stopped input old new (ReadFault file) = (file ≡ 1) × FailsAtRead old new input × WroteNothing old new
 Stopped input old new (WriteFault file) = ⊥
@@ -131,16 +116,11 @@ SatRan input output symbols old new outcome = Stopped input old new outcome
 
 abbrev pub Ran : SeenJob → DeskState → DeskState → Outcome → Type 0
 Ran (Sat input output symbols) old new outcome = SatRan input output symbols old new outcome
+Ran (Back formula symbols answer) old new outcome = SaidRan (formula ∷ symbols ∷ answer ∷ []) BackAnswers old new outcome
+Ran (Check input atoms) old new outcome = SaidRan (input ∷ atoms ∷ []) CheckAnswers old new outcome
 
--- the name that the job reads
-abbrev pub input_of : SeenJob → List ℕ
-input_of (Sat input output symbols) = input
-
--- no count of faults rose
-pub record NoFault (old new : DeskState) : Type 0 where
-  pub reading : ¬ Rose old.read_faults new.read_faults
-  pub writing : ¬ Rose old.write_faults new.write_faults
-
--- Without a fault the outcome is the one that the text calls for, or memory ran out.
+-- Without a fault the outcome is the one that the texts call for, or memory ran out.
 abbrev pub Completes : SeenJob → DeskState → DeskState → Outcome → Type 0
-Completes j old new outcome = IfSome (old.held (input_of j)) (λ text. NoFault old new → (outcome ≡ sat_outcome text) ⊎ (outcome ≡ Memory))
+Completes (Sat input output symbols) old new outcome = IfSome (old.held input) (λ text. NoFault old new → (outcome ≡ sat_outcome text) ⊎ (outcome ≡ Memory))
+Completes (Back formula symbols answer) old new outcome = SaidCompletes (formula ∷ symbols ∷ answer ∷ []) BackAnswers old new outcome
+Completes (Check input atoms) old new outcome = SaidCompletes (input ∷ atoms ∷ []) CheckAnswers old new outcome

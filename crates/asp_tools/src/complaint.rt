@@ -4,21 +4,24 @@ ghost use Rattle.arrayvec.specs.ArrayVec.{array_vec_len};
 use crate::job::Job;
 use crate::outcome::{Kind, Outcome};
 use arrayvec::ArrayVec;
+use back_map::AnswerKind;
+use dimacs_format::FormulaKind;
 use itoa::Buffer;
+use symbol_map::MapKind;
 
 /// A name is cut at so many bytes.
 const NAME_LIMIT: usize = 200;
 
-/// The line that a run says on standard error, at most 320 bytes. It lies in place and takes no memory.
+/// The line that a run says on standard error, at most 360 bytes. It lies in place and takes no memory.
 #[derive(Drop)]
 pub(crate) struct Complaint {
-    line: ArrayVec<u8, 320>,
+    line: ArrayVec<u8, 360>,
 }
 
-/// The line of an outcome, None for a job that was done. A file goes by its name in the job, cut at 200 bytes, which may
-/// be inside a character.
+/// The line of an outcome, None where the outcome is said on standard output or the job was done. A file goes by its name
+/// in the job, cut at 200 bytes, which may be inside a character.
 pub(crate) fn complaint_of(outcome: &Outcome, job: Option<&Job<'_>>) -> Option<Complaint> {
-    if let Outcome::Done = outcome {
+    if let Outcome::Done | Outcome::Rejected(_) | Outcome::NoModelGiven = outcome {
         return None;
     }
     let mut complaint = Complaint {
@@ -33,7 +36,7 @@ pub(crate) fn complaint_of(outcome: &Outcome, job: Option<&Job<'_>>) -> Option<C
 impl Complaint {
     /// The bytes of the line, with its line end.
     pub(crate) fn as_bytes(&self) -> &[u8]
-        ensures { length result.now ≤ 320 }
+        ensures { length result.now ≤ 360 }
     {
         self.line.as_slice()
     }
@@ -41,10 +44,10 @@ impl Complaint {
     /// Puts what the outcome says, without the program's name and the line end.
     fn put_outcome(&mut self, outcome: &Outcome, job: Option<&Job<'_>>)
         requires { array_vec_len self.old.line ≤ 10 }
-        ensures { array_vec_len self.new.line ≤ 319 }
+        ensures { array_vec_len self.new.line ≤ 359 }
     {
         match outcome {
-            Outcome::Done => {}
+            Outcome::Done | Outcome::Rejected(_) | Outcome::NoModelGiven => {}
             Outcome::BadWords => self.put(b"bad words"),
             Outcome::Refused { file, line, kind } => {
                 self.put_refusal(name_of(*file, job), *line, *kind);
@@ -68,12 +71,30 @@ impl Complaint {
     /// Puts a file's name, the line where it is not 0, and what is wrong there.
     fn put_refusal(&mut self, name: &str, line: u64, kind: Kind)
         requires { array_vec_len self.old.line ≤ 10 }
-        ensures { array_vec_len self.new.line ≤ 319 }
+        ensures { array_vec_len self.new.line ≤ 359 }
     {
         self.put_name(name);
         self.put_line_number(line);
         self.put(b": ");
         self.put(kind_name(kind).as_bytes());
+        self.put_mismatch(kind);
+    }
+
+    /// Puts the two numbers of variables of a mismatch, a space before each.
+    fn put_mismatch(&mut self, kind: Kind)
+        requires { array_vec_len self.old.line ≤ 270 }
+        ensures { array_vec_len self.new.line ≤ 359 }
+    {
+        if let Kind::Mismatch {
+            formula_vars,
+            map_vars,
+        } = kind
+        {
+            self.put(b" ");
+            self.put_number(formula_vars.into());
+            self.put(b" ");
+            self.put_number(map_vars.into());
+        }
     }
 
     /// Puts a colon and the number of a line. Line 0 is the whole file, and puts nothing.
@@ -96,7 +117,7 @@ impl Complaint {
     }
 
     fn put_number(&mut self, number: u64)
-        requires { array_vec_len self.old.line ≤ 280 }
+        requires { array_vec_len self.old.line ≤ 319 }
         ensures { array_vec_len self.new.line ≤ array_vec_len self.old.line + 40 }
     {
         let mut buffer = Buffer::new();
@@ -105,7 +126,7 @@ impl Complaint {
 
     /// Puts all of the piece: there must be room for it.
     fn put(&mut self, piece: &[u8])
-        requires { array_vec_len self.old.line + length piece.now ≤ 320 }
+        requires { array_vec_len self.old.line + length piece.now ≤ 360 }
         ensures { array_vec_len self.new.line ≡ array_vec_len self.old.line + length piece.now }
     {
         // It is Ok, since there is room.
@@ -121,23 +142,69 @@ fn name_of<'a>(file: u32, job: Option<&Job<'a>>) -> &'a str {
         (1, Some(Job::Sat { input, .. })) => input,
         (2, Some(Job::Sat { output, .. })) => output,
         (3, Some(Job::Sat { map, .. })) => map,
+        (1, Some(Job::Back { formula, .. })) => formula,
+        (2, Some(Job::Back { map, .. })) => map,
+        (3, Some(Job::Back { answer, .. })) => answer,
+        (1, Some(Job::Check { input, .. })) => input,
+        (2, Some(Job::Check { atoms, .. })) => atoms,
         _ => "",
     }
 }
 
 fn kind_name(kind: Kind) -> &'static str
-    ensures { length result.now ≤ 16 }
+    ensures { length result.now ≤ 17 }
 {
     match kind {
         Kind::TextTooLong => "TextTooLong",
         Kind::Text(kind) => kind.name(),
+        Kind::Formula(kind) => formula_kind_name(kind),
+        Kind::Map(kind) => map_kind_name(kind),
+        Kind::Answer(kind) => answer_kind_name(kind),
+        Kind::Mismatch { .. } => "Mismatch",
         Kind::NotBuilt => "NotBuilt",
+    }
+}
+
+fn formula_kind_name(kind: FormulaKind) -> &'static str
+    ensures { length result.now ≤ 17 }
+{
+    match kind {
+        FormulaKind::BadHeader => "BadHeader",
+        FormulaKind::BadNumber => "BadNumber",
+        FormulaKind::LiteralOutOfRange => "LiteralOutOfRange",
+        FormulaKind::WrongCount => "WrongCount",
+        FormulaKind::ZeroWeight => "ZeroWeight",
+        FormulaKind::BadEdge => "BadEdge",
+        FormulaKind::NoEnd => "NoEnd",
+    }
+}
+
+fn map_kind_name(kind: MapKind) -> &'static str
+    ensures { length result.now ≤ 17 }
+{
+    match kind {
+        MapKind::BadHeader => "BadHeader",
+        MapKind::BadLine => "BadLine",
+        MapKind::WrongOrder => "WrongOrder",
+        MapKind::NoEnd => "NoEnd",
+    }
+}
+
+fn answer_kind_name(kind: AnswerKind) -> &'static str
+    ensures { length result.now ≤ 17 }
+{
+    match kind {
+        AnswerKind::BadLine => "BadLine",
+        AnswerKind::LiteralOutOfRange => "LiteralOutOfRange",
+        AnswerKind::BothSigns => "BothSigns",
+        AnswerKind::NoStatus => "NoStatus",
     }
 }
 
 #[cfg(test)]
 mod tests {
     use super::*;
+    use crate::outcome::Why;
     use ground_program::ReadKind;
     use std::alloc::{AllocError, Global};
     use std::test::Fail;
@@ -162,6 +229,30 @@ mod tests {
         ReadKind::TooManyLiterals,
     ];
 
+    const FORMULA_KINDS: [FormulaKind; 7] = [
+        FormulaKind::BadHeader,
+        FormulaKind::BadNumber,
+        FormulaKind::LiteralOutOfRange,
+        FormulaKind::WrongCount,
+        FormulaKind::ZeroWeight,
+        FormulaKind::BadEdge,
+        FormulaKind::NoEnd,
+    ];
+
+    const MAP_KINDS: [MapKind; 4] = [
+        MapKind::BadHeader,
+        MapKind::BadLine,
+        MapKind::WrongOrder,
+        MapKind::NoEnd,
+    ];
+
+    const ANSWER_KINDS: [AnswerKind; 4] = [
+        AnswerKind::BadLine,
+        AnswerKind::LiteralOutOfRange,
+        AnswerKind::BothSigns,
+        AnswerKind::NoStatus,
+    ];
+
     fn refused(file: u32, line: u64, kind: Kind) -> Outcome {
         Outcome::Refused { file, line, kind }
     }
@@ -173,7 +264,13 @@ mod tests {
             output: "out",
             map: "map",
         };
-        assert!(rt; complaint_of(&Outcome::Done, Some(&job)).is_none());
+        for outcome in [
+            Outcome::Done,
+            Outcome::NoModelGiven,
+            Outcome::Rejected(Why::Clause(1)),
+        ] {
+            assert!(rt; complaint_of(&outcome, Some(&job)).is_none());
+        }
         for (outcome, want) in [
             (Outcome::BadWords, "asptools: bad words\n"),
             (
@@ -189,6 +286,17 @@ mod tests {
                 "asptools: in: TextTooLong\n",
             ),
             (refused(1, 0, Kind::NotBuilt), "asptools: in: NotBuilt\n"),
+            (
+                refused(
+                    2,
+                    0,
+                    Kind::Mismatch {
+                        formula_vars: 3,
+                        map_vars: 4294967295,
+                    },
+                ),
+                "asptools: out: Mismatch 3 4294967295\n",
+            ),
             (
                 Outcome::TooLarge { number: 16777217 },
                 "asptools: too large: 16777217\n",
@@ -228,6 +336,18 @@ mod tests {
         for kind in KINDS {
             let want = format!(in rt.alloc(); "{kind:?}")?;
             assert_eq!(rt; kind_name(Kind::Text(kind)), want.as_str());
+        }
+        for kind in FORMULA_KINDS {
+            let want = format!(in rt.alloc(); "{kind:?}")?;
+            assert_eq!(rt; kind_name(Kind::Formula(kind)), want.as_str());
+        }
+        for kind in MAP_KINDS {
+            let want = format!(in rt.alloc(); "{kind:?}")?;
+            assert_eq!(rt; kind_name(Kind::Map(kind)), want.as_str());
+        }
+        for kind in ANSWER_KINDS {
+            let want = format!(in rt.alloc(); "{kind:?}")?;
+            assert_eq!(rt; kind_name(Kind::Answer(kind)), want.as_str());
         }
         Ok(())
     }

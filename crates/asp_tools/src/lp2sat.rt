@@ -1,28 +1,28 @@
 ghost use Rattle.std.specs.Prelude.{ℕ, Some, length, ◌<◌, List, Ok, OnOk, ◌≡◌, ◌≢◌, ◌≤◌, ◌^◌, ◌-◌, ◌↔◌, None, IfOk, IfErr, true};
 ghost use Rattle.std.specs.Io.KnownBytes.{IsAtEnd};
-ghost use Rattle.asp_tools.specs.Ran.{SatRan, Stopped, WroteNothing, HoldsProgram, IsTooLong, formula_text, symbols_text};
+ghost use Rattle.asp_tools.specs.Ran.{SatRan, Stopped, HoldsProgram, formula_text, symbols_text};
+ghost use Rattle.asp_tools.specs.Reads.{WroteNothing, IsTooLong};
 ghost use Rattle.asp_tools.specs.Built.{is_built};
 ghost use Rattle.symbol_map.specs.MapWriting.{map_text};
 ghost use Rattle.asp_tools.specs.Headline.{Translates};
-ghost use Rattle.aspif_format.specs.Aspif.{aspif_of};
+ghost use Rattle.asp_tools.specs.ProgramText.{program_of_text};
 ghost use Rattle.completion.specs.Normal.{AreNormal};
 ghost use Rattle.completion.specs.Completion.{completion};
 ghost use Rattle.ground_program.specs.Size.{size};
 
 use crate::built::is_built;
 use crate::input_map::input_map;
-use crate::outcome::{Kind, Outcome, outcome_of};
+use crate::outcome::{Kind, Outcome};
+use crate::program_text::read_program;
+use crate::take_text::take_text;
 use crate::write::{Cut, write_two};
-use asp_base::{Desk, Memory, read_all};
+use asp_base::{Desk, Memory};
 use clause_store::Store;
 use completion::complete;
 use dimacs_format::write_cnf;
 use ground_program::{Program, ReadRefusal, size};
 use std::alloc::Global;
 use symbol_map::SymbolMap;
-
-/// A text has at most so many bytes.
-const TEXT_LIMIT: u64 = 1 << 30;
 
 /// A program that is translated has at most this size.
 const SIZE_LIMIT: u64 = 1 << 24;
@@ -90,11 +90,8 @@ fn take_program<'a, D: Desk<'a>>(
     ensures err { IfErr result (λ outcome. Stopped input.now (D.state desk.old) (D.state desk.new) outcome) }
     ensures too_long { IfErr result (λ outcome. IsTooLong (D.state desk.new) input.now ↔ (outcome ≡ Outcome.Refused 1 0 Kind.TextTooLong)) }
 {
-    let text = match read_all(alloc, desk, input, TEXT_LIMIT) {
-        Ok(text) => text,
-        Err(fault) => return Err(outcome_of(fault, 1)),
-    };
-    match aspif_format::read(alloc, text.as_slice()) {
+    let text = take_text(alloc, desk, input, 1)?;
+    match read_program(alloc, text.as_slice()) {
         Ok(program) => Ok(program),
         Err(ReadRefusal::At { line, kind }) => Err(Outcome::Refused {
             file: 1,
@@ -111,7 +108,7 @@ fn texts_of(alloc: Global, program: Program) -> Result<Texts, Memory>
     requires small { size program ≤ 2 ^ 24 }
     ensures formula { IfOk result (λ texts. texts.formula.items ≡ formula_text program) }
     ensures map { IfOk result (λ texts. texts.map.items ≡ symbols_text program) }
-    ensures translates { OnOk result ((source : List ℕ) → aspif_of source ≡ Ok program → Translates source (formula_text program) (symbols_text program)) }
+    ensures translates { OnOk result ((source : List ℕ) → program_of_text source ≡ Ok program → Translates source (formula_text program) (symbols_text program)) }
 {
     let (formula, vars) = formula_of(alloc, &program)?;
     let map = input_map(alloc, program, vars)?;
