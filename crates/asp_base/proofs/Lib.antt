@@ -1,4 +1,7 @@
+pub mod Bools
 pub mod Causes
+pub mod Each
+pub mod IntegerTests
 pub mod LiteralLaws
 pub mod NewestFirst
 pub mod Rest

@@ -1,7 +1,9 @@
 -- Laws of literals.
-use Rattle.std.proofs.Common.{◌≡◌, ◌≢◌, zero, suc, pos, ◌<◌, ◌^◌, Bool, true, false, not, Decides, refl, ap, sym, ◌∙◌, arith}
+use Rattle.std.proofs.Common.{◌≡◌, ◌≢◌, subst, int_eq, zero, suc, pos, ◌<◌, ◌^◌, true, false, not, Decides, refl, ap, sym, ◌∙◌, arith}
 use Rattle.std.proofs.lemmas.Bool.{false≢true}
-use Rattle.std.proofs.lemmas.Bool.Decides.{Decides-eqb}
+use Rattle.asp_base.specs.contracts.lit.LitPartialEq.TheImpl as lit
+use Rattle.asp_base.proofs.Bools.{same_test, not-not}
+use Rattle.std.proofs.lemmas.Bool.Decides.{Decides-eqb, Decides-int_eq}
 use Rattle.asp_base.specs.Sets.{Set}
 use Rattle.asp_base.specs.Literal.{Literal, Pos, Neg, atom_of, is_positive, negation, literal_of, integer_of, IsLiteral, same_literal, literal_holds}
 
@@ -20,11 +22,7 @@ is_positive-negation (Neg a) = refl
 -- where a literal and its negation are seen in one set, just one of them holds
 pub literal_holds-negation : (l : Literal) (M : Set) → literal_holds (negation l) M M ≡ not (literal_holds l M M)
 literal_holds-negation (Pos a) M = refl
-literal_holds-negation (Neg a) M = twice (M a)
-  where
-    twice : (t : Bool) → t ≡ not (not t)
-    twice true = refl
-    twice false = refl
+literal_holds-negation (Neg a) M = sym (not-not (M a))
 
 pub same_literal-Decides : (a b : Literal) → Decides (same_literal a b) (a ≡ b)
 same_literal-Decides (Pos a) (Pos b) = (λ t. ap Pos ((Decides-eqb a b).0 t), λ e. (Decides-eqb a b).1 (ap atom_of e))
@@ -61,7 +59,16 @@ IsLiteral-integer_of (Pos a) above below = above
 IsLiteral-integer_of (Neg zero) above below = absurd (omega (arith, above))
 IsLiteral-integer_of (Neg (suc a)) above below = omega (arith, below)
 
--- two literals with atoms above 0 and the same number are the same
-pub equal_from_integers : (a b : Literal) → 0 < atom_of a → 0 < atom_of b → integer_of a ≡ integer_of b → a ≡ b
-equal_from_integers a b above_a above_b e =
-    sym (literal_of-integer_of a above_a) ∙ ap literal_of e ∙ literal_of-integer_of b above_b
+-- a literal with an atom above 0 is the one that has its number
+pub same_from_integer : (a b : Literal) → 0 < atom_of a → integer_of a ≡ integer_of b → a ≡ b
+same_from_integer a (Pos n) above e = sym (literal_of-integer_of a above) ∙ ap literal_of e
+same_from_integer a (Neg (suc n)) above e = sym (literal_of-integer_of a above) ∙ ap literal_of e
+same_from_integer a (Neg zero) above e =
+    let zero_atom : a ≡ Pos 0 = sym (literal_of-integer_of a above) ∙ ap literal_of e in
+    absurd (omega (arith, subst (λ l. 0 < atom_of l) zero_atom above))
+
+-- the `==` of literals
+pub eq-same_literal : (a b : Literal) → 0 < atom_of a → (lit.ghosts).eq a b ≡ same_literal b a
+eq-same_literal a b above = same_test (int_eq (integer_of a) (integer_of b)) (same_literal b a)
+    (λ e. subst (λ l. same_literal l a ≡ true) (same_from_integer a b above ((Decides-int_eq (integer_of a) (integer_of b)).0 e)) (same_literal-same a))
+    (λ e. (Decides-int_eq (integer_of a) (integer_of b)).1 (ap integer_of (sym (equal_from_same b a e))))

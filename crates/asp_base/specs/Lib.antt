@@ -1,11 +1,12 @@
 pub mod Desk
 pub mod Entries
 pub mod Fail
+pub mod Faults
 pub mod Host
-pub mod InsideLit
 pub mod Literal
 pub mod Mem
 pub mod Place
 pub mod Sets
 pub mod Take
 pub mod Walks
+pub mod private

@@ -1,3 +1,5 @@
+//! The trait of all that a program reads and writes.
+
 ghost use Rattle.std.specs.Prelude.{◌≡◌, None, OnOk, OnErr, IfOk};
 ghost use Rattle.asp_base.specs.Desk.{DeskState, BeginsReading, FailsToBeginReading, Reads, FailsToRead, BeginsWriting, FailsToBeginWriting, Writes, FailsToWrite, EndsWriting, FailsToEndWriting, Says, FailsToSay};
 

@@ -1,3 +1,5 @@
+//! The desk of real files and of the program's own standard output and standard error.
+
 ghost use Rattle.std.specs.Prelude.{◌≡◌, ◌<◌, ◌≤◌, ◌^◌, None, IfOk, length};
 
 use crate::desk::Desk;
@@ -52,7 +54,8 @@ impl<'a, R: Files + Print + Eprint + Drop> HostDesk<'a, R> {
 
     /// A call that reads fails at this place.
     fn fail_reading(&mut self, place: Place<'a>)
-        ensures { FailsReading (⟦<HostDesk<'a, R> as Desk<'a>>⟧.state self.old) (⟦<HostDesk<'a, R> as Desk<'a>>⟧.state self.new) (spot place.entry) }
+        ensures { FailsReading (⟦<HostDesk<'a, R> as Desk<'a>>⟧.state self.old)
+            (⟦<HostDesk<'a, R> as Desk<'a>>⟧.state self.new) (spot place.entry) }
     {
         self.read_faults = self.read_faults.saturating_add(1);
         self.read_failed = place;
@@ -60,7 +63,8 @@ impl<'a, R: Files + Print + Eprint + Drop> HostDesk<'a, R> {
 
     /// A call that writes fails at this place.
     fn fail_writing(&mut self, place: Place<'a>)
-        ensures { FailsWriting (⟦<HostDesk<'a, R> as Desk<'a>>⟧.state self.old) (⟦<HostDesk<'a, R> as Desk<'a>>⟧.state self.new) (spot place.entry) }
+        ensures { FailsWriting (⟦<HostDesk<'a, R> as Desk<'a>>⟧.state self.old)
+            (⟦<HostDesk<'a, R> as Desk<'a>>⟧.state self.new) (spot place.entry) }
     {
         self.write_faults = self.write_faults.saturating_add(1);
         self.write_failed = place;
@@ -73,7 +77,8 @@ impl<'a, R: Files + Print + Eprint + Drop> Desk<'a> for HostDesk<'a, R> {
     ghost use Rattle.asp_base.specs.Host.{host_state};
     ghost use Rattle.asp_base.specs.Place.{spot};
 
-    ghost state = { λ d. host_state d.given (option_map (λ name. name.now) d.reading) (option_map (λ name. name.now) d.writing)
+    ghost state = { λ d. host_state d.given (option_map (λ name. name.now) d.reading)
+        (option_map (λ name. name.now) d.writing)
         d.read_faults (spot d.read_failed) d.write_faults (spot d.write_failed) };
 
     fn begin_read(&mut self, name: &'a str) -> Result<(), Failed> {

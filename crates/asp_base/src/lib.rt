@@ -4,6 +4,7 @@
 mod desk;
 mod faults;
 mod host;
+mod interpretation;
 mod lists;
 mod lit;
 mod mem;
@@ -12,9 +13,10 @@ mod take;
 mod words;
 
 pub use desk::Desk;
-pub use faults::{Failed, Memory};
+pub use faults::{Failed, LineFault, Memory, Refusal};
 pub use host::HostDesk;
-pub use lists::{ByteList, Walk};
+pub use interpretation::Interpretation;
+pub use lists::{ByteList, VecList, Walk};
 pub use lit::Lit;
 pub use mem::{FailDesk, MemDesk};
 pub use take::{TakeFault, read_all};

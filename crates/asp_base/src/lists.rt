@@ -1,77 +1,85 @@
-ghost use Rattle.std.specs.Prelude.{◌≡◌, ℤ, ℕ, List, length};
+//! A vector that contracts see as the list of its items.
 
+ghost use Rattle.std.specs.Prelude.{◌≡◌, ◌↔◌, List, [], ◌∷◌, ◌++◌, length, IsTrue, OnOk, OnErr};
+
+use crate::faults::Memory;
+use std::alloc::Global;
 use std::marker::Model;
 
-/// A list of bytes. Contracts see it as the list.
+/// A vector. Contracts see it as the list of its items.
 #[derive(Debug, Drop)]
-pub struct ByteList {
-    items: Vec<u8>,
+pub struct VecList<T> {
+    items: Vec<T>,
 }
 
-impl Model for ByteList {
-    ghost use Rattle.std.specs.Prelude.{List, ℕ};
+impl<T> Model for VecList<T> {
+    ghost use Rattle.std.specs.Prelude.{List};
 
-    ghost Value = { List ℕ };
+    ghost Value = { List T };
 
     ghost view = { λ l. l.items.items };
 }
 
-impl ByteList {
-    /// The list of these bytes.
-    pub fn from_vec(items: Vec<u8>) -> ByteList
-        ensures { result ≡ items.items }
+impl<T> VecList<T> {
+    /// No items.
+    pub fn new(alloc: Global) -> VecList<T>
+        ensures { result ≡ [] }
     {
-        ByteList { items }
+        VecList {
+            items: Vec::new(alloc),
+        }
     }
 
-    /// The bytes as a vector, not copied.
-    pub fn into_vec(self) -> Vec<u8>
+    /// The list of these items, which keeps their memory.
+    pub fn from_vec(items: Vec<T>) -> VecList<T>
+        ensures { result ≡ items.items }
+    {
+        VecList { items }
+    }
+
+    /// The items as a vector, not copied.
+    pub fn into_vec(self) -> Vec<T>
         ensures { result.items ≡ self }
     {
         self.items
     }
 
-    /// The bytes, lent.
-    pub fn as_slice(&self) -> &[u8]
+    /// The items, lent.
+    pub fn as_slice(&self) -> &[T]
         ensures { result.now ≡ self.now }
     {
         self.items.as_slice()
     }
 }
 
-/// A walk in a graph: the nodes in their order. Contracts see it as the list of nodes.
-#[derive(Debug, Drop)]
-pub struct Walk {
-    items: Vec<i32>,
-}
-
-impl Model for Walk {
-    ghost use Rattle.std.specs.Prelude.{List, ℤ};
-
-    ghost Value = { List ℤ };
-
-    ghost view = { λ l. l.items.items };
-}
-
-impl Walk {
-    /// The walk along these nodes.
-    pub fn from_vec(items: Vec<i32>) -> Walk
-        ensures { result ≡ items.items }
+impl<T: Drop> VecList<T> {
+    /// Puts an item behind the others. After `Memory` the list is unchanged.
+    pub fn push(&mut self, item: T) -> Result<(), Memory>
+        ensures ok { OnOk result (self.new ≡ self.old ++ item ∷ []) }
+        ensures err { OnErr result (self.new ≡ self.old) }
     {
-        Walk { items }
-    }
-
-    /// The nodes as a vector, not copied.
-    pub fn into_vec(self) -> Vec<i32>
-        ensures { result.items ≡ self }
-    {
-        self.items
-    }
-
-    /// The nodes, lent.
-    pub fn as_slice(&self) -> &[i32]
-        ensures { result.now ≡ self.now }
-    {
-        self.items.as_slice()
+        match self.items.push(item) {
+            Ok(()) => Ok(()),
+            Err(_) => Err(Memory),
+        }
     }
 }
+
+impl<T: Copy> VecList<T> {
+    /// Puts copies of further items behind these. After `Memory` the list is unchanged.
+    pub fn append(&mut self, items: &[T]) -> Result<(), Memory>
+        ensures ok { OnOk result (self.new ≡ self.old ++ items.now) }
+        ensures err { OnErr result (self.new ≡ self.old) }
+    {
+        match self.items.extend_from_slice(items) {
+            Ok(()) => Ok(()),
+            Err(_) => Err(Memory),
+        }
+    }
+}
+
+/// A list of bytes.
+pub type ByteList = VecList<u8>;
+
+/// A walk in a graph: the nodes in their order.
+pub type Walk = VecList<i32>;

@@ -1,3 +1,5 @@
+//! Literals.
+
 ghost use Rattle.std.specs.Prelude.{◌≡◌, ◌≢◌, negsuc, pos, ◌<◌, ◌⊎◌, ◌^◌, ◌↔◌, ◌-◌, IsNone, IfSome};
 ghost use Rattle.asp_base.specs.Literal.{Pos, atom_of, is_positive, negation, literal_of, integer_of};
 
@@ -12,7 +14,7 @@ pub struct Lit {
 
 impl Model for Lit {
     ghost use Rattle.asp_base.specs.Literal.{Literal, literal_of, integer_of, IsLiteral};
-    ghost use Rattle.asp_base.specs.InsideLit.{inside_back};
+    ghost use Rattle.asp_base.specs.private.InsideLit.{inside_back};
 
     ghost Value = { Literal };
 

@@ -1,3 +1,5 @@
+//! A desk in memory.
+
 ghost use Rattle.asp_base.specs.Entries.{latest, bytes_at, newest_name, grown};
 ghost use Rattle.std.specs.Option.{option_map};
 ghost use Rattle.std.specs.Prelude.{◌≡◌, ◌≢◌, ◌≤◌, ◌<◌, ◌+◌, ◌++◌, [], ◌∷◌, List, ℕ, None, Some, OnOk, OnErr, IsErr, ◌↔◌, IfOk, IfSome, MatchOption, drop, take, length, min, ◌^◌};
@@ -92,7 +94,7 @@ pub struct MemDesk<'a> {
 
 #[tactic(auto, using(crate::proofs::NewestFirst::newest))]
 impl<'a> MemDesk<'a> {
-    ghost use Rattle.asp_base.specs.Mem.{mem_state};
+    ghost use Rattle.asp_base.specs.Mem.{mem_state, move_limit};
     ghost use Rattle.asp_base.specs.Desk.{DeskState, Nowhere, spot_of, Holds, FailsReading, FailsWriting};
     ghost use Rattle.asp_base.specs.Place.{spot};
 
@@ -100,7 +102,20 @@ impl<'a> MemDesk<'a> {
     /// more. Nothing is made, said or begun, and both counts of faults are 0. It takes no memory yet.
     pub fn new(alloc: Global, most: usize) -> MemDesk<'a>
         requires { 1 ≤ most }
-        ensures { mem_state result ≡ record { held = λ _. None; left = None; given = 0; reading = None; read_faults = 0; read_failed = Nowhere; made = λ _. Some None; writing = None; said = Some []; write_faults = 0; write_failed = Nowhere } }
+        ensures state { mem_state result ≡ record {
+          held = λ _. None;
+          left = None;
+          given = 0;
+          reading = None;
+          read_faults = 0;
+          read_failed = Nowhere;
+          made = λ _. Some None;
+          writing = None;
+          said = Some [];
+          write_faults = 0;
+          write_failed = Nowhere;
+        } }
+        ensures most { move_limit result ≡ most }
     {
         MemDesk {
             alloc,
@@ -120,7 +135,8 @@ impl<'a> MemDesk<'a> {
 
     /// A call that reads fails at this place.
     fn fail_reading(&mut self, place: Place<'a>)
-        ensures { FailsReading (mem_state self.old) (mem_state self.new) (spot place.entry) }
+        ensures state { FailsReading (mem_state self.old) (mem_state self.new) (spot place.entry) }
+        ensures most { move_limit self.new ≡ move_limit self.old }
     {
         self.read_faults = self.read_faults.saturating_add(1);
         self.read_failed = place;
@@ -128,7 +144,8 @@ impl<'a> MemDesk<'a> {
 
     /// A call that writes fails at this place.
     fn fail_writing(&mut self, place: Place<'a>)
-        ensures { FailsWriting (mem_state self.old) (mem_state self.new) (spot place.entry) }
+        ensures state { FailsWriting (mem_state self.old) (mem_state self.new) (spot place.entry) }
+        ensures most { move_limit self.new ≡ move_limit self.old }
     {
         self.write_faults = self.write_faults.saturating_add(1);
         self.write_failed = place;
@@ -136,7 +153,8 @@ impl<'a> MemDesk<'a> {
 
     /// Ends a reading.
     fn stop_reading(&mut self)
-        ensures { mem_state self.new ≡ record (mem_state self.old) { left = None; reading = None; given = 0 } }
+        ensures state { mem_state self.new ≡ record (mem_state self.old) { left = None; reading = None; given = 0 } }
+        ensures most { move_limit self.new ≡ move_limit self.old }
     {
         self.given = 0;
         self.reading = None;
@@ -180,6 +198,7 @@ impl<'a> MemDesk<'a> {
     pub fn hold(&mut self, name: &str, bytes: &[u8]) -> Result<(), Memory>
         ensures ok { OnOk result (Holds (mem_state self.old) (mem_state self.new) name.now bytes.now) }
         ensures err { OnErr result (mem_state self.new ≡ mem_state self.old) }
+        ensures most { move_limit self.new ≡ move_limit self.old }
     {
         let held = new_held(self.alloc, name, bytes)?;
         self.held.insert(0, held)?;
@@ -232,7 +251,8 @@ fn place_of(entries: &[Held], name: &str) -> Option<usize>
 
 /// The bytes of the newest entry of the name.
 fn bytes_of<'b>(entries: &'b [Made<'_>], name: &str) -> Option<&'b [u8]>
-    ensures { MatchOption result (latest entries.now name.now ≡ None) (λ bytes. latest entries.now name.now ≡ Some bytes.now) }
+    ensures { MatchOption result (latest entries.now name.now ≡ None)
+        (λ bytes. latest entries.now name.now ≡ Some bytes.now) }
 {
     for entry in entries {
         if entry.name == name {
@@ -282,8 +302,8 @@ fn extend_newest(entries: &mut [Made<'_>], bytes: &[u8]) -> Result<(), Memory>
 
 #[tactic(auto, using(crate::proofs::NewestFirst::newest))]
 impl<'a> Desk<'a> for MemDesk<'a> {
-    ghost use Rattle.asp_base.specs.Mem.{mem_state};
-    ghost use Rattle.asp_base.specs.Desk.{BeginsReading, FailsToBeginReading, Reads, FailsToRead, BeginsWriting, FailsToBeginWriting, EndsWriting, FailsToEndWriting, Says, FailsToSay};
+    ghost use Rattle.asp_base.specs.Mem.{mem_state, move_limit};
+    ghost use Rattle.asp_base.specs.Desk.{BeginsReading, FailsToBeginReading, Reads, FailsToRead, BeginsWriting, FailsToBeginWriting, Writes, FailsToWrite, EndsWriting, FailsToEndWriting, Says, FailsToSay};
 
     ghost state = { mem_state };
 
@@ -292,6 +312,7 @@ impl<'a> Desk<'a> for MemDesk<'a> {
         ensures ok { OnOk result (BeginsReading (mem_state self.old) (mem_state self.new) name.now) }
         ensures err { OnErr result (FailsToBeginReading (mem_state self.old) (mem_state self.new) name.now) }
         ensures only { IsErr result ↔ ((mem_state self.old).held name.now ≡ None) }
+        ensures most { move_limit self.new ≡ move_limit self.old }
     {
         self.given = 0;
         match place_of(&self.held, name) {
@@ -311,7 +332,10 @@ impl<'a> Desk<'a> for MemDesk<'a> {
     fn read(&mut self, into: &mut [u8]) -> Result<usize, Failed>
         ensures ok { IfOk result (λ n. Reads (mem_state self.old) (mem_state self.new) into.new n) }
         ensures err { OnErr result (FailsToRead (mem_state self.old) (mem_state self.new) into.new) }
+        ensures moved { IfOk result (λ n. IfSome (mem_state self.old).left (λ left.
+            n ≡ min (move_limit self.old) (min (length left) (length into.new)))) }
         ensures only { IsErr result ↔ ((mem_state self.old).reading ≡ None) }
+        ensures most { move_limit self.new ≡ move_limit self.old }
     {
         let Some(reading) = self.reading else {
             self.fail_reading(Place::Nowhere);
@@ -334,6 +358,7 @@ impl<'a> Desk<'a> for MemDesk<'a> {
         ensures ok { OnOk result (BeginsWriting (mem_state self.old) (mem_state self.new) name.now) }
         ensures err { OnErr result (FailsToBeginWriting (mem_state self.old) (mem_state self.new) name.now) }
         ensures kept { OnErr result ((mem_state self.new).made ≡ (mem_state self.old).made) }
+        ensures most { move_limit self.new ≡ move_limit self.old }
     {
         let fresh = Made {
             name,
@@ -349,7 +374,12 @@ impl<'a> Desk<'a> for MemDesk<'a> {
 
     /// Writes the first of the bytes, at most `most` of them. `Failed` where no writing is begun,
     /// and else only for want of memory.
-    fn write(&mut self, bytes: &[u8]) -> Result<usize, Failed> {
+    fn write(&mut self, bytes: &[u8]) -> Result<usize, Failed>
+        ensures ok { IfOk result (λ n. Writes (mem_state self.old) (mem_state self.new) bytes.now n) }
+        ensures err { OnErr result (FailsToWrite (mem_state self.old) (mem_state self.new) bytes.now) }
+        ensures moved { IfOk result (λ n. n ≡ min (move_limit self.old) (length bytes.now)) }
+        ensures most { move_limit self.new ≡ move_limit self.old }
+    {
         let Some(name) = self.open_name() else {
             self.fail_writing(Place::Nowhere);
             return Err(Failed);
@@ -370,6 +400,7 @@ impl<'a> Desk<'a> for MemDesk<'a> {
         ensures ok { OnOk result (EndsWriting (mem_state self.old) (mem_state self.new)) }
         ensures err { OnErr result (FailsToEndWriting (mem_state self.old) (mem_state self.new)) }
         ensures only { IsErr result ↔ ((mem_state self.old).writing ≡ None) }
+        ensures most { move_limit self.new ≡ move_limit self.old }
     {
         if self.open_name().is_none() {
             self.fail_writing(Place::Nowhere);
@@ -385,6 +416,7 @@ impl<'a> Desk<'a> for MemDesk<'a> {
         ensures ok { OnOk result (Says (mem_state self.old) (mem_state self.new) bytes.now) }
         ensures err { OnErr result (FailsToSay (mem_state self.old) (mem_state self.new) bytes.now) }
         ensures kept { OnErr result ((mem_state self.new).said ≡ (mem_state self.old).said) }
+        ensures most { move_limit self.new ≡ move_limit self.old }
     {
         if self.said.extend_from_slice(bytes).is_err() {
             self.fail_writing(Place::Output);

@@ -1,4 +1,6 @@
-ghost use Rattle.std.specs.Prelude.{◌≡◌, ◌≤◌, ◌<◌, ◌^◌, ◌↔◌, [], None, Some, IfOk, OnOk, OnErr, IfSome, IsErrOf, length};
+//! Takes the whole content of a name.
+
+ghost use Rattle.std.specs.Prelude.{◌≡◌, ◌≤◌, ◌<◌, ◌^◌, ◌↔◌, ◌⊎◌, [], None, Some, IfOk, OnOk, OnErr, IfSome, IsErrOf, length};
 ghost use Rattle.asp_base.specs.Desk.{DeskState, Rose, Name};
 ghost use Rattle.asp_base.specs.Take.{TakeKeeps, TookAll};
 ghost use Rattle.asp_base.specs.declared.take.TakeFault.TheVariants as faults;
@@ -61,7 +63,10 @@ pub fn read_all<'a, D: Desk<'a>>(
     requires { limit < 2 ^ 32 }
     ensures ok { IfOk result (λ text. TookAll (D.state desk.old) (D.state desk.new) name.now limit text) }
     ensures read_fault { IsErrOf result TakeFault.ReadFault →
-        Rose (D.state desk.old).read_faults (D.state desk.new).read_faults × ((D.state desk.new).read_failed ≡ Name name.now) }
+        Rose (D.state desk.old).read_faults (D.state desk.new).read_faults ×
+        ((D.state desk.new).read_failed ≡ Name name.now) }
+    ensures no_fault { IsErrOf result TakeFault.ReadFault ⊎
+        ((D.state desk.new).read_faults ≡ (D.state desk.old).read_faults) }
     ensures too_long { IsErrOf result TakeFault.TextTooLong →
         (limit < (D.state desk.new).given) × ((D.state desk.new).reading ≡ Some name.now) }
     ensures text_too_long { IsErrOf result TakeFault.TextTooLong →

@@ -1,3 +1,5 @@
+//! The words of a command line.
+
 ghost use Rattle.std.specs.Prelude.{◌≡◌, ℕ, ◌+◌, ◌-◌, ◌<◌, ◌≤◌, ◌⊎◌, ◌↔◌, List, [], ◌∷◌, ◌++◌, length, drop, slice_get, OnOk, OnErr, IsNone, IfSome, Some};
 
 use crate::faults::Memory;

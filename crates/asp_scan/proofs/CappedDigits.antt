@@ -1,7 +1,7 @@
 -- The digits at the front of a text, read into a number that stops at the greatest u64.
 use Rattle.std.proofs.Common.{◌≡◌, refl, ◌∙◌, ℕ, zero, suc, ◌+◌, ◌-◌, ◌*◌, ◌^◌, ◌≤◌, ◌<◌, nat_le, min, Bool, true, false, cond, List, [], ◌∷◌, length, drop, get_or, Option, Some, None, arith}
 use Rattle.std.proofs.lemmas.Bool.{and_parts, or_from, cond-true, cond-false, leb-true, ne_eqb}
-use Rattle.asp_scan.specs.CutAtMost.{cut_at_most}
+use Rattle.asp_scan.specs.private.CutAtMost.{cut_at_most}
 use Rattle.asp_scan.specs.Lines.{is_blank}
 use Rattle.asp_scan.specs.Tokens.{token_front, after_token, is_digit, digits_onto}
 

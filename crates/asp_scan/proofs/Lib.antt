@@ -1,8 +1,11 @@
+pub mod Appends
 mod CappedDigits
-mod Fronts
 pub mod LineText
 pub mod LineTokens
+pub mod NameEnds
+pub mod NoFeed
 pub mod NumberText
+pub mod Numerals
 mod Pieces
 mod Rows
 mod Steps

@@ -1,19 +1,54 @@
 -- The tokens of a line, one at a time.
-use Rattle.std.proofs.Common.{◌≡◌, refl, sym, ◌∙◌, ap, ap₂, subst, ℕ, zero, suc, ◌≤◌, ◌<◌, Bool, true, false, cond, List, [], ◌∷◌, length, Option, Some, None, arith}
-use Rattle.std.proofs.lemmas.Bool.{cond-false}
+use Rattle.std.proofs.Common.{◌≡◌, refl, sym, ◌∙◌, ap, ap₂, subst, ℕ, zero, suc, ◌≤◌, ◌<◌, ◌==◌, ℤ, Bool, true, false, cond, List, [], ◌∷◌, length, drop, Option, Some, None, Result, Ok, Err, arith}
+use Rattle.std.proofs.lemmas.Bool.{cond-true, cond-false}
 use Rattle.asp_scan.specs.Lines.{is_blank}
-use Rattle.asp_scan.specs.Tokens.{skip_blanks, token_front, after_token, token_at, tokens_within, tokens}
+use Rattle.asp_scan.specs.Tokens.{skip_blanks, token_front, after_token, token_at, integer_of, checked, with_rest, tokens_within, tokens}
+use Rattle.asp_scan.specs.Words.{ends_token}
+use Rattle.asp_scan.specs.declared.scan.ScanFault.{ScanFault}
+use Rattle.asp_scan.specs.declared.scan.ScanFault.TheVariants.{Missing}
 
-after_token-short : (bytes : List ℕ) → length (after_token bytes) ≤ length bytes
+-- ---- `token_at` and `number_at` by their steps
+
+-- the token at the front of a line whose blanks were skipped
+abbrev pub first_token : List ℕ → Option (List ℕ × List ℕ)
+first_token skipped = elim skipped [ [] ↦ None | byte ∷ bytes ↦ Some (token_front (byte ∷ bytes), after_token (byte ∷ bytes)) ]
+
+-- the number that a token is
+abbrev pub number_in : Option (List ℕ × List ℕ) → Result (ℤ × List ℕ) ScanFault
+number_in token = elim token [ None ↦ Err Missing | Some token ↦ with_rest (checked (integer_of token.0)) token.1 ]
+
+-- what was found, and what follows it
+abbrev pub found_of : Option (List ℕ × List ℕ) → List ℕ
+found_of None = []
+found_of (Some found) = found.0
+
+abbrev pub left_of : Option (List ℕ × List ℕ) → List ℕ
+left_of None = []
+left_of (Some found) = found.1
+
+abbrev pub left_of_number : Result (ℤ × List ℕ) ScanFault → List ℕ
+left_of_number (Ok read) = read.1
+left_of_number (Err fault) = []
+
+-- what follows a number is what followed its token
+pub with_rest-left : (number : Result ℤ ScanFault) (rest left : List ℕ) (n : ℤ) → with_rest number rest ≡ Ok (n, left) → rest ≡ left
+with_rest-left (Ok m) rest left n e = ap left_of_number e
+with_rest-left (Err fault) rest left n e = absurd (cc)
+
+-- blanks are skipped also where the first is taken before
+pub skip_blanks-drop : (line : List ℕ) → ends_token line ≡ true → skip_blanks line ≡ skip_blanks (drop 1 line)
+skip_blanks-drop [] blank = refl
+skip_blanks-drop (byte ∷ bytes) blank = cond-true (is_blank byte) (skip_blanks bytes) (byte ∷ bytes) blank
+
+-- ---- what follows is shorter
+
+pub after_token-short : (bytes : List ℕ) → length (after_token bytes) ≤ length bytes
 after_token-short [] = omega arith
 after_token-short (byte ∷ bytes) = by (is_blank byte) (after_token-short bytes)
   where
     by : (b : Bool) → length (after_token bytes) ≤ length bytes → length (cond b (byte ∷ bytes) (after_token bytes)) ≤ length (byte ∷ bytes)
     by true h = omega arith
     by false h = omega arith
-
-abbrev first_token : List ℕ → Option (List ℕ × List ℕ)
-first_token line = elim line [ [] ↦ None | byte ∷ bytes ↦ Some (token_front (byte ∷ bytes), after_token (byte ∷ bytes)) ]
 
 -- what follows a token is shorter than the line
 pub token_at-shorter : (line : List ℕ) (token : List ℕ × List ℕ) → token_at line ≡ Some token → length token.1 < length line
@@ -24,12 +59,19 @@ token_at-shorter (byte ∷ bytes) token e = by (is_blank byte) refl e (λ h. tok
         → (token_at bytes ≡ Some token → length token.1 < length bytes) → length (after_token bytes) ≤ length bytes → length token.1 < length (byte ∷ bytes)
     by true b h rest short = let k : length token.1 < length bytes = rest h in omega arith
     by false b h rest short =
-        let same : after_token (byte ∷ bytes) ≡ token.1 = ap (λ o. elim o as (λ x. List ℕ) [ None ↦ [] | Some t ↦ t.1 ]) h in
+        let same : after_token (byte ∷ bytes) ≡ token.1 = ap left_of h in
         let found : after_token (byte ∷ bytes) ≡ after_token bytes = ap (λ c. cond c (byte ∷ bytes) (after_token bytes)) b in
         let k : length (after_token bytes) ≡ length token.1 = ap length (sym found ∙ same) in
         omega arith
 
-none-left : (most : ℕ) → tokens_within most [] ≡ []
+-- also where blanks were skipped before
+pub behind-shorter : (line skipped : List ℕ) → skipped ≡ skip_blanks line → (length skipped == 0) ≡ false → length (after_token skipped) < length line
+behind-shorter line [] is some = absurd (cc)
+behind-shorter line (byte ∷ bytes) is some = token_at-shorter line (token_front (byte ∷ bytes), after_token (byte ∷ bytes)) (ap first_token (sym is))
+
+-- ---- the tokens in turn
+
+pub none-left : (most : ℕ) → tokens_within most [] ≡ []
 none-left zero = refl
 none-left (suc most) = refl
 
@@ -104,5 +146,5 @@ token_at-token line token e = by (skip_blanks line) refl e
     by : (left : List ℕ) → skip_blanks line ≡ left → first_token left ≡ Some token → token_at token.0 ≡ Some (token.0, [])
     by [] s h = absurd (cc)
     by (first ∷ rest) s h =
-        let same : token_front (first ∷ rest) ≡ token.0 = ap (λ o. elim o as (λ x. List ℕ) [ None ↦ [] | Some t ↦ t.0 ]) h in
+        let same : token_front (first ∷ rest) ≡ token.0 = ap found_of h in
         subst (λ (w : List ℕ). token_at w ≡ Some (w, [])) same (front-alone first rest (skipped-first line first rest s))

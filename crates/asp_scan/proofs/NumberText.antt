@@ -1,16 +1,15 @@
 -- Written numbers are words, and are read as numbers.
-use Rattle.std.proofs.Common.{◌≡◌, refl, ◌∙◌, ap, ℕ, suc, ◌+◌, ◌-◌, ◌*◌, ◌/◌, ◌%◌, ◌^◌, ◌≤◌, ◌<◌, ◌==◌, nat_le, ℤ, pos, negsuc, Bool, true, false, not, cond, ◌||◌, List, [], ◌∷◌, ◌++◌, Some, None, Result, Ok, Err, decimal, FitsSigned, arith}
+use Rattle.std.proofs.Common.{◌≡◌, refl, ◌∙◌, ap, ℕ, suc, ◌+◌, ◌-◌, ◌*◌, ◌/◌, ◌%◌, ◌^◌, ◌≤◌, ◌<◌, ◌==◌, nat_le, ℤ, pos, negsuc, nat_abs, Bool, true, false, not, cond, ◌||◌, List, [], ◌∷◌, ◌++◌, Option, Some, None, Ok, decimal, FitsSigned, arith}
 use Rattle.std.specs.Fmt.{signed_decimal}
 use Rattle.std.specs.Int.{w64}
 use Rattle.std.specs.List.{list_all}
 use Rattle.std.proofs.lemmas.Bool.{and_parts, and_from, or_from, cond-true, cond-false, le-leb, leb-true, ne_eqb}
 use Rattle.std.proofs.lemmas.Fmt.{decimal_by_steps_wide}
 use Rattle.asp_scan.specs.Lines.{is_blank}
-use Rattle.asp_scan.specs.Tokens.{is_digit, digits_onto, natural_of, some_pos, some_neg, integer_of, fits_i64, checked, with_rest, number_at}
+use Rattle.asp_scan.specs.Tokens.{is_digit, digits_onto, natural_of, some_pos, some_neg, integer_of, fits_i64, checked, with_rest, number_of, number_at}
 use Rattle.asp_scan.specs.Words.{is_word_byte, IsWord, Ends}
-use Rattle.asp_scan.specs.declared.scan.ScanFault.{ScanFault}
-use Rattle.asp_scan.specs.declared.scan.ScanFault.TheVariants.{Missing}
 use Rattle.asp_scan.proofs.CappedDigits.{digit-black}
+use Rattle.asp_scan.proofs.LineTokens.{number_in}
 use Rattle.asp_scan.proofs.WordText.{token_at-word}
 
 digits_onto-append : (a m : ℕ) (xs ys : List ℕ) → digits_onto a xs ≡ Some m → digits_onto a (xs ++ ys) ≡ digits_onto m ys
@@ -35,7 +34,9 @@ one_digit a k h = cond-true (is_digit (48 + k)) _ None (digit_is k h) ∙ ap Som
 
 all-push : (xs : List ℕ) (x : ℕ) → list_all is_digit xs ≡ true → is_digit x ≡ true → list_all is_digit (xs ++ (x ∷ [])) ≡ true
 all-push [] x h p = and_from (is_digit x) true p refl
-all-push (y ∷ xs) x h p = let parts : (is_digit y ≡ true) × (list_all is_digit xs ≡ true) = and_parts (is_digit y) (list_all is_digit xs) h in and_from (is_digit y) _ parts.0 (all-push xs x parts.1 p)
+all-push (y ∷ xs) x h p =
+    let parts : (is_digit y ≡ true) × (list_all is_digit xs ≡ true) = and_parts (is_digit y) (list_all is_digit xs) h in
+    and_from (is_digit y) _ parts.0 (all-push xs x parts.1 p)
 
 -- one more digit
 spells-more : (k : ℕ) (ds : List ℕ) → Spells (k / 10) ds → Spells k (ds ++ ((48 + k % 10) ∷ []))
@@ -107,16 +108,34 @@ fits_i64-pos n h = le-leb (suc n) (2 ^ 63) (omega arith)
 pub fits_i64-negsuc : (n : ℕ) → n < 2 ^ 63 → fits_i64 (negsuc n) ≡ true
 fits_i64-negsuc n h = and_from _ _ (le-leb n (2 ^ 63 - 1) (omega arith)) refl
 
+-- at most 2^31 in magnitude
+pub fits_i64-small : (z : ℤ) → nat_abs z ≤ 2 ^ 31 → fits_i64 z ≡ true
+fits_i64-small (pos n) h = fits_i64-pos n (omega (arith, h))
+fits_i64-small (negsuc n) h = fits_i64-negsuc n (omega (arith, h))
+
+pub fitting-is_word : (z : ℤ) → fits_i64 z ≡ true → IsWord (signed_decimal z)
+fitting-is_word z fits = signed-word z (IsShort-from_fits z fits)
+
+pub small-is_word : (z : ℤ) → nat_abs z ≤ 2 ^ 31 → IsWord (signed_decimal z)
+small-is_word z h = fitting-is_word z (fits_i64-small z h)
+
+pub natural-is_word : (n : ℕ) → n < 2 ^ 64 → IsWord (decimal n)
+natural-is_word n h = decimal-word n (omega arith)
+
 -- each i64
 pub fits_i64-from_type : (z : ℤ) → FitsSigned w64 z → fits_i64 z ≡ true
 fits_i64-from_type (pos n) h = fits_i64-pos n (omega (arith, h))
 fits_i64-from_type (negsuc n) h = fits_i64-negsuc n (omega (arith, h))
 
+pub number_of-signed : (z : ℤ) → fits_i64 z ≡ true → number_of (signed_decimal z) ≡ Some z
+number_of-signed z fits =
+    ap (λ o. elim o as (λ x. Option ℤ) [ None ↦ None | Some n ↦ cond (fits_i64 n) (Some n) None ]) (integer_of-signed z (IsShort-from_fits z fits))
+    ∙ cond-true (fits_i64 z) (Some z) None fits
+
 -- what is written of a number is read as that number
 pub number_at-signed : (z : ℤ) (rest : List ℕ) → fits_i64 z ≡ true → Ends rest → number_at (signed_decimal z ++ rest) ≡ Ok (z, rest)
 number_at-signed z rest fits e =
-    ap (λ t. elim t as (λ x. Result (ℤ × List ℕ) ScanFault) [ None ↦ Err Missing | Some token ↦ with_rest (checked (integer_of token.0)) token.1 ])
-    (token_at-word (signed_decimal z) rest (signed-word z (IsShort-from_fits z fits)) e)
+    ap number_in (token_at-word (signed_decimal z) rest (fitting-is_word z fits) e)
     ∙ (ap (λ o. with_rest (checked o) rest) (integer_of-signed z (IsShort-from_fits z fits)) ∙ ap (λ r. with_rest r rest) (cond-true (fits_i64 z) _ _ fits))
 
 -- also behind a space

@@ -1,11 +1,14 @@
 -- Written words are read as tokens.
-use Rattle.std.proofs.Common.{◌≡◌, refl, sym, ◌∙◌, ap, ap₂, ℕ, zero, suc, ◌≤◌, ◌<◌, ◌==◌, nat_le, true, false, not, ◌&&◌, ◌||◌, List, [], ◌∷◌, ◌++◌, length, take, drop, length-append, Option, Some, None, arith}
+use Rattle.std.proofs.Common.{◌≡◌, refl, sym, ◌∙◌, ap, ap₂, ℕ, zero, suc, ◌≤◌, ◌<◌, ◌==◌, nat_le, true, false, not, ◌&&◌, ◌||◌, List, [], ◌∷◌, ◌++◌, length, length-append, Some, None, arith}
 use Rattle.std.specs.List.{AllByRecursion, list_all}
 use Rattle.std.proofs.lemmas.Bool.{and_parts, and_from, or_parts, true≢false, cond-true, cond-false, le-leb}
+use Rattle.std.proofs.lemmas.List.{append-nil}
+use Rattle.std.proofs.Math.Seq.{take-append_seam, drop-append_seam}
 use Rattle.asp_scan.specs.Lines.{is_blank, is_blank_line}
 use Rattle.asp_scan.specs.Tokens.{skip_blanks, token_front, after_token, token_at, bytes_from, tokens_within, tokens}
 use Rattle.asp_scan.specs.Words.{spaced, stays_in_line, ends_with_return, is_word_byte, IsWord, IsLine, Ends}
 use Rattle.asp_scan.proofs.LineText.{from_not-true, IsLine-append}
+use Rattle.asp_scan.proofs.LineTokens.{first_token, none-left}
 
 -- what is known of a byte of a word
 pub record WordByte (byte : ℕ) : Type 0 where
@@ -49,36 +52,24 @@ skip_blanks-word (byte ∷ word) rest h = cond-false (is_blank byte) _ _ (word-p
 pub token_at-word : (word rest : List ℕ) → IsWord word → Ends rest → token_at (word ++ rest) ≡ Some (word, rest)
 token_at-word [] rest h e = absurd (true≢false (sym h))
 token_at-word (byte ∷ word) rest h e =
-    ap (λ l. elim l as (λ x. Option (List ℕ × List ℕ)) [ [] ↦ None | first ∷ bytes ↦ Some (token_front (first ∷ bytes), after_token (first ∷ bytes)) ]) (skip_blanks-word (byte ∷ word) rest h)
+    ap first_token (skip_blanks-word (byte ∷ word) rest h)
     ∙ ap₂ (λ x y. Some (x, y)) (token_front-word (byte ∷ word) rest h e) (after_token-word (byte ∷ word) rest h e)
 
 -- also behind a space
 pub token_at-spaced : (word rest : List ℕ) → IsWord word → Ends rest → token_at (32 ∷ (word ++ rest)) ≡ Some (word, rest)
 token_at-spaced word rest h e = token_at-word word rest h e
 
-append-none : (xs : List ℕ) → xs ++ [] ≡ xs
-append-none [] = refl
-append-none (x ∷ xs) = ap (λ l. x ∷ l) (append-none xs)
-
 -- a word that ends its line
 pub token_at-last : (word : List ℕ) → IsWord word → token_at word ≡ Some (word, [])
-token_at-last word h = ap token_at (sym (append-none word)) ∙ token_at-word word [] h refl
+token_at-last word h = ap token_at (sym (append-nil word)) ∙ token_at-word word [] h refl
 
 -- ---- names
-
-drop-front : (name rest : List ℕ) → drop (length name) (name ++ rest) ≡ rest
-drop-front [] rest = refl
-drop-front (byte ∷ name) rest = drop-front name rest
-
-take-front : (name rest : List ℕ) → take (length name) (name ++ rest) ≡ name
-take-front [] rest = refl
-take-front (byte ∷ name) rest = ap (λ l. byte ∷ l) (take-front name rest)
 
 -- bytes behind one space are read back by their number
 pub bytes_from-name : (name rest : List ℕ) → bytes_from (length name) (32 ∷ (name ++ rest)) ≡ Some (name, rest)
 bytes_from-name name rest =
     cond-true (nat_le (length name) (length (name ++ rest))) _ None (le-leb (length name) (length (name ++ rest)) (omega (arith, length-append name rest)))
-    ∙ ap₂ (λ x y. Some (x, y)) (take-front name rest) (drop-front name rest)
+    ∙ ap₂ (λ x y. Some (x, y)) (take-append_seam name rest) (drop-append_seam name rest)
 
 -- ---- lines of words
 
@@ -126,7 +117,7 @@ word-not_blank [] rest h = absurd (true≢false (sym h))
 word-not_blank (byte ∷ word) rest h = ap (λ b. b && list_all is_blank (word ++ rest)) (word-parts byte word h).0.blank
 
 pub spaced-not_blank : (word : List ℕ) (words : List (List ℕ)) → IsWord word → is_blank_line (spaced (word ∷ words)) ≡ false
-spaced-not_blank word [] h = ap is_blank_line (sym (append-none word)) ∙ word-not_blank word [] h
+spaced-not_blank word [] h = ap is_blank_line (sym (append-nil word)) ∙ word-not_blank word [] h
 spaced-not_blank word (next ∷ words) h = word-not_blank word (32 ∷ spaced (next ∷ words)) h
 
 word-token : (most : ℕ) (word rest : List ℕ) → IsWord word → Ends rest → tokens_within (suc most) (word ++ rest) ≡ word ∷ tokens_within most rest
@@ -137,16 +128,12 @@ blank-more : (most : ℕ) (line : List ℕ) → tokens_within most (32 ∷ line)
 blank-more zero line = refl
 blank-more (suc most) line = refl
 
-none-left : (most : ℕ) → tokens_within most [] ≡ []
-none-left zero = refl
-none-left (suc most) = refl
-
 -- the tokens of spaced words are the words, where there are turns enough
 pub spaced-within : (words : List (List ℕ)) (most : ℕ) → AllByRecursion IsWord words → length words ≤ most → tokens_within most (spaced words) ≡ words
 spaced-within [] most h l = none-left most
 spaced-within (word ∷ words) zero h l = absurd (omega arith)
 spaced-within (word ∷ []) (suc most) h l =
-    ap (tokens_within (suc most)) (sym (append-none word)) ∙ (word-token most word [] h.0 refl ∙ ap (λ ts. word ∷ ts) (none-left most))
+    ap (tokens_within (suc most)) (sym (append-nil word)) ∙ (word-token most word [] h.0 refl ∙ ap (λ ts. word ∷ ts) (none-left most))
 spaced-within (word ∷ next ∷ words) (suc most) h l =
     word-token most word (32 ∷ spaced (next ∷ words)) h.0 refl
     ∙ ap (λ ts. word ∷ ts) (blank-more most (spaced (next ∷ words)) ∙ spaced-within (next ∷ words) most h.1 (omega arith))

@@ -18,7 +18,9 @@ onto_first byte (line ∷ lines) = (byte ∷ line) ∷ lines
 -- cut at each line feed; a last piece is a line where it is not empty
 abbrev pub pieces_of : List ℕ → List (List ℕ)
 pieces_of [] = []
-pieces_of (byte ∷ bytes) = let rest : List (List ℕ) = pieces_of bytes in cond (byte == 10) ([] ∷ rest) (onto_first byte rest)
+pieces_of (byte ∷ bytes) =
+    let rest : List (List ℕ) = pieces_of bytes in
+    cond (byte == 10) ([] ∷ rest) (onto_first byte rest)
 
 -- without one carriage return at its end
 abbrev pub without_return : List ℕ → List ℕ
@@ -38,7 +40,8 @@ unless_blank line lines = cond (is_blank_line line.bytes) lines (line ∷ lines)
 -- the lines that are not blank, numbered from here
 abbrev pub numbered : ℕ → List (List ℕ) → List Line
 numbered n [] = []
-numbered n (piece ∷ pieces) = unless_blank (record { number = n; bytes = without_return piece }) (numbered (suc n) pieces)
+numbered n (piece ∷ pieces) =
+    unless_blank (record { number = n; bytes = without_return piece }) (numbered (suc n) pieces)
 
 abbrev pub lines_of : List ℕ → List Line
 lines_of text = numbered 1 (pieces_of text)

@@ -1,4 +1,4 @@
--- Lines and words as they are written: words with one space between them, and an end behind each line.
+-- Lines and words as they are written: words with one space between them, an end behind each line.
 use Rattle.std.specs.Prelude.{ℕ, ◌==◌, Bool, true, false, not, ◌&&◌, ◌||◌, IsTrue, List, [], ◌∷◌, ◌++◌}
 use Rattle.std.specs.List.{list_all}
 use Rattle.asp_scan.specs.Lines.{is_blank}

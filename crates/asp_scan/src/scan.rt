@@ -1,3 +1,6 @@
+//! A walk over a borrowed text, line by line and token by token. Each line is cut where `memchr` finds its end, so a
+//! walk is linear in the text, and it takes no memory.
+
 ghost use Rattle.std.specs.Prelude.{◌≡◌, ◌<◌, ◌^◌, [], ◌∷◌, length, IsNone, IsSome, IfOk, IfErr, IfSome, OnOk, OnErr, OnSome};
 ghost use Rattle.std.specs.Bool.{OnTrue, OnFalse, MatchBool};
 ghost use Rattle.asp_scan.specs.Scanning.{start, next};
@@ -20,9 +23,9 @@ pub enum ScanFault {
 
 /// A walk over a borrowed text, line by line and token by token. It lends slices of the text and takes no memory.
 ///
-/// A line ends with the byte 10, and one byte 13 before it is no part of the line; a last piece without that end is a line
-/// where it has a byte. Lines are numbered from 1, and lines of spaces and tabs alone are skipped. A token is a longest run
-/// of bytes of a line that are neither space nor tab.
+/// A line ends with the byte 10, and one byte 13 before it is no part of the line; a last piece without that end is a
+/// line where it has a byte. Lines are numbered from 1, and lines of spaces and tabs alone are skipped. A token is a
+/// longest run of bytes of a line that are neither space nor tab.
 #[derive(Debug, Drop)]
 pub struct Scan<'a> {
     line: &'a [u8],
@@ -62,11 +65,12 @@ impl<'a> Scan<'a> {
         }
     }
 
-    /// Goes to the next line that is not blank. False exactly where there is none: the walk then stands at the line of the
-    /// end, which is the number of lines of the text and at least 1, and has no bytes.
+    /// Goes to the next line that is not blank. False exactly where there is none: the walk then stands at the line of
+    /// the end, which is the number of lines of the text and at least 1, and has no bytes.
     pub fn next_line(&mut self) -> bool
         ensures next { self.new ≡ next self.old }
-        ensures more { OnTrue result ((self.old.ahead ≡ self.new.line ∷ self.new.ahead) × (self.new.left ≡ self.new.line.bytes)) }
+        ensures more { OnTrue result
+            ((self.old.ahead ≡ self.new.line ∷ self.new.ahead) × (self.new.left ≡ self.new.line.bytes)) }
         ensures none { OnFalse result (self.old.ahead ≡ []) }
         ensures short { length self.new.left < 2 ^ 63 }
     {
@@ -94,9 +98,9 @@ impl<'a> Scan<'a> {
         self.number
     }
 
-    /// The number that the next token is. Refused with `Missing` exactly where the line has no further token, `BadNumber`
-    /// where the token is no numeral, that is an optional minus and one or more digits, and `TooWide` where its value is
-    /// outside i64. After a refusal the walk stands where it stood.
+    /// The number that the next token is. Refused with `Missing` exactly where the line has no further token,
+    /// `BadNumber` where the token is no numeral, that is an optional minus and one or more digits, and `TooWide` where
+    /// its value is outside i64. After a refusal the walk stands where it stood.
     pub fn next_number(&mut self) -> Result<i64, ScanFault>
         ensures ok { IfOk result (λ n. number_at self.old.left ≡ Ok (n, self.new.left)) }
         ensures err { IfErr result (λ fault. number_at self.old.left ≡ Err fault) }
@@ -129,8 +133,8 @@ impl<'a> Scan<'a> {
         Some(word)
     }
 
-    /// The n bytes behind the one space or tab that stands next. None exactly where the line has no such blank, or fewer
-    /// than n bytes behind it; the walk then stands where it stood.
+    /// The n bytes behind the one space or tab that stands next. None exactly where the line has no such blank, or
+    /// fewer than n bytes behind it; the walk then stands where it stood.
     pub fn next_bytes(&mut self, n: u64) -> Option<&'a [u8]>
         ensures bytes { IfSome result (λ bytes. bytes_from n self.old.left ≡ Some (bytes.now, self.new.left)) }
         ensures none { IsNone result → (bytes_from n self.old.left ≡ None) × (self.new ≡ self.old) }
@@ -147,7 +151,7 @@ impl<'a> Scan<'a> {
         }
     }
 
-    /// What is left of the line behind the spaces and tabs that stand next; the walk then stands at the end of the line.
+    /// What is left of the line behind the spaces and tabs that stand next; the walk then stands at the line's end.
     pub fn rest(&mut self) -> &'a [u8]
         ensures bytes { result.now ≡ skip_blanks self.old.left }
         ensures rest { self.new ≡ record self.old { left = [] } }
@@ -172,90 +176,5 @@ impl<'a> Scan<'a> {
             [first, ..] => *first == byte,
             [] => false,
         }
-    }
-}
-
-#[cfg(test)]
-mod tests {
-    use super::*;
-    use crate::push_number;
-    use std::process::Abort;
-    use std::test::Fail;
-
-    const LOW: i64 = i64::MIN;
-
-    const HIGH: i64 = i64::MAX;
-
-    // The numbers of the lines that are not blank, and the line of the end.
-    #[test]
-    fn walks_over_a_table_of_texts(rt: HostRuntime) -> Result<(), Fail> {
-        let table: [(&[u8], &[u64]); 6] = [
-            (b"", &[1]),
-            (b"\n", &[1]),
-            (b"one\r\n \t\r\n\nfour", &[1, 4, 4]),
-            (b" \n\t", &[2]),
-            (b"a\n\n\nd\n\n", &[1, 4, 5]),
-            (b"\r", &[1]),
-        ];
-        for (text, lines) in table {
-            let mut scan = Scan::new(text);
-            assert_eq!(rt; scan.line(), 0);
-            for line in lines {
-                let more = scan.next_line();
-                assert_eq!(rt; scan.line(), *line);
-                assert_eq!(rt; more, !scan.end_of_line());
-            }
-            assert!(rt; !scan.next_line());
-        }
-        reads_fields(&rt);
-        writes_numbers(&rt)
-    }
-
-    fn reads_fields<R: Abort>(rt: &R) {
-        let mut scan = Scan::new(
-            b"x\ty\r\n -9223372036854775808 9223372036854775807 000000000000000000000000000001 -0\n9223372036854775808 -9223372036854775809 99999999999999999999999a - 1-\n 3 a b  \tz",
-        );
-        assert!(rt; scan.next_line());
-        assert!(rt; scan.begins_with(b'x'));
-        assert_eq!(rt; scan.next_number(), Err(ScanFault::BadNumber));
-        assert_eq!(rt; scan.next_word(), Some(b"x".as_slice()));
-        assert_eq!(rt; scan.next_word(), Some(b"y".as_slice()));
-        assert_eq!(rt; scan.next_word(), None);
-        assert!(rt; scan.next_line());
-        assert!(rt; !scan.begins_with(b'-'));
-        for value in [LOW, HIGH, 1, 0] {
-            assert_eq!(rt; scan.next_number(), Ok(value));
-        }
-        assert_eq!(rt; scan.next_number(), Err(ScanFault::Missing));
-        assert!(rt; scan.next_line());
-        for fault in [
-            ScanFault::TooWide,
-            ScanFault::TooWide,
-            ScanFault::BadNumber,
-            ScanFault::BadNumber,
-            ScanFault::BadNumber,
-        ] {
-            assert_eq!(rt; scan.next_number(), Err(fault));
-            assert!(rt; scan.next_word().is_some());
-        }
-        assert!(rt; scan.next_line());
-        assert_eq!(rt; scan.next_number(), Ok(3));
-        assert_eq!(rt; scan.next_bytes(8), None);
-        assert_eq!(rt; scan.next_bytes(4), Some(b"a b ".as_slice()));
-        assert_eq!(rt; scan.rest(), b"z".as_slice());
-        assert!(rt; scan.end_of_line());
-    }
-
-    fn writes_numbers<R: Abort + AllocGlobal>(rt: &R) -> Result<(), Fail> {
-        let mut out = Vec::new(rt.alloc());
-        for value in [0, -1, i128::MAX, i128::MIN] {
-            push_number(&mut out, value)?;
-            out.push(b' ')?;
-        }
-        assert_eq!(rt;
-            out.as_slice(),
-            b"0 -1 170141183460469231731687303715884105727 -170141183460469231731687303715884105728 ".as_slice()
-        );
-        Ok(())
     }
 }

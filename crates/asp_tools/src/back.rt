@@ -1,57 +1,41 @@
-ghost use Rattle.std.specs.Prelude.{◌≡◌, ◌≢◌, ◌<◌, ◌^◌, ℕ, List, ◌∷◌, [], None, length, Ok, IfOk, IfErr};
-ghost use Rattle.asp_base.specs.Literal.{Pos};
-ghost use Rattle.clause_store.specs.Assigned.{true_in};
-ghost use Rattle.clause_store.specs.Clauses.{Clauses};
-ghost use Rattle.symbol_map.specs.Symbols.{Symbols};
-ghost use Rattle.asp_tools.specs.Replies.{no_model_text};
-ghost use Rattle.asp_tools.specs.BackAnswers.{BackAnswers, OfFormula, OfMap, OfAnswer, Judges};
-ghost use Rattle.asp_tools.specs.Reads.{TooLongExactly};
-ghost use Rattle.asp_tools.specs.Said.{SaidRan, Replying, RefusedBy};
-ghost use Rattle.dimacs_format.specs.Dimacs.{formula_of};
-ghost use Rattle.symbol_map.specs.MapText.{map_of};
-ghost use Rattle.back_map.specs.AnswerText.{Answered, has, answer_of};
-ghost use Rattle.back_map.specs.Reading.{Answers};
-ghost use Rattle.back_map.specs.declared.answer.Status.TheVariants as statuses;
+//! `back`: whether a solver's answer is a model of the formula, and what it shows of the program through the map.
 
-use crate::outcome::{Kind, Outcome, Why};
-use crate::reply::{Reply, accepted_text, no_model_text, rejected_clause_text};
-use crate::saying::say;
-use crate::take_text::take_text;
-use asp_base::{ByteList, Desk, Memory};
-use back_map::{Answer, AnswerRefusal, Judged, back as judge, read_answer};
+ghost use Rattle.std.specs.Prelude.{◌≡◌, ◌<◌, ◌^◌, false, [], length, Ok, IfOk, IfErr};
+ghost use Rattle.asp_base.specs.Faults.{Refuses};
+ghost use Rattle.clause_store.specs.Assigned.{true_in};
+ghost use Rattle.dimacs_format.specs.Read.{formula_of};
+ghost use Rattle.symbol_map.specs.Read.{map_of};
+ghost use Rattle.back_map.specs.Read.{Answered, Answers, answer_of};
+ghost use Rattle.asp_tools.specs.BackAnswers.{BackAnswers, OfFormula, OfMap, OfAnswer};
+ghost use Rattle.asp_tools.specs.Calls.{says_of};
+ghost use Rattle.asp_tools.specs.Sayings.{no_model_text};
+ghost use Rattle.asp_tools.specs.private.OnValues.{OnValues};
+ghost use Rattle.asp_tools.specs.private.Replying.{Replying};
+
+use crate::answer::Answer;
+use crate::outcome::{Kind, Why};
+use crate::replies::{refused, saying};
+use crate::sayings::{accepted_text, no_model_text, rejected_clause_text};
+use asp_base::{ByteList, Memory, VecList};
+use back_map::{AnswerRefusal, Judged, back as judge, read_answer};
 use clause_store::{Assignment, Formula};
 use dimacs_format::FormulaRefusal;
+use job_shell::Reply;
 use std::alloc::Global;
 use symbol_map::{MapRefusal, SymbolMap};
 
-/// Says whether a solver's answer is a model of the formula, and what it shows of the program through the map.
-pub(crate) fn back<'a, D: Desk<'a>>(
-    alloc: Global,
-    desk: &mut D,
-    formula: &'a str,
-    map: &'a str,
-    answer: &'a str,
-) -> Outcome
-    requires idle { (D.state desk.old).writing ≡ None }
-    requires differ { (formula.now ≢ map.now) × (formula.now ≢ answer.now) × (map.now ≢ answer.now) }
-    ensures ran { SaidRan (formula.now ∷ map.now ∷ answer.now ∷ []) BackAnswers (D.state desk.old) (D.state desk.new) result }
-    ensures too_long { TooLongExactly 1 (formula.now ∷ map.now ∷ answer.now ∷ []) (D.state desk.new) result }
+/// The reply to the texts of a formula, a map and an answer.
+pub(crate) fn reply(alloc: Global, texts: VecList<ByteList>) -> Result<Reply<Answer>, Memory>
+    requires count { length texts ≡ 3 }
+    ensures answers { IfOk result (λ r. BackAnswers texts r.answer r.made r.said) }
+    ensures made { IfOk result (λ r. r.made ≡ []) }
+    ensures said { IfOk result (λ r. says_of r.answer ≡ false → r.said ≡ []) }
 {
-    let formula = match take_text(alloc, desk, formula, 1) {
-        Ok(text) => text,
-        Err(outcome) => return outcome,
-    };
-    let map = match take_text(alloc, desk, map, 2) {
-        Ok(text) => text,
-        Err(outcome) => return outcome,
-    };
-    let answer = match take_text(alloc, desk, answer, 3) {
-        Ok(text) => text,
-        Err(outcome) => return outcome,
-    };
-    match reply_to(alloc, formula, map, answer) {
-        Ok(reply) => say(desk, reply),
-        Err(outcome) => outcome,
+    let mut texts = texts.into_vec();
+    match (texts.pop(), texts.pop(), texts.pop()) {
+        (Some(answer), Some(map), Some(formula)) => reply_to(alloc, formula, map, answer),
+        // There are three.
+        _ => Err(Memory),
     }
 }
 
@@ -61,14 +45,25 @@ fn reply_to(
     formula: ByteList,
     map: ByteList,
     answer: ByteList,
-) -> Result<Reply, Outcome>
-    ensures ok { IfOk result (λ reply. Replying (OfFormula (formula_of formula) map answer) reply) }
-    ensures err { IfErr result (λ outcome. RefusedBy (OfFormula (formula_of formula) map answer) outcome) }
+) -> Result<Reply<Answer>, Memory>
+    ensures { IfOk result (λ r. Replying (OfFormula (formula_of formula) map answer)
+        r.answer r.made r.said) }
 {
     match formula_in(alloc, formula) {
         Ok(formula) => reply_through(alloc, &formula, map, answer),
-        Err(outcome) => Err(outcome),
+        Err(FormulaRefusal::At { line, kind }) => Ok(refused(alloc, 1, line, Kind::Formula(kind))),
+        Err(FormulaRefusal::Memory) => Err(Memory),
     }
+}
+
+/// The formula of a text, which is let go.
+fn formula_in(alloc: Global, text: ByteList) -> Result<Formula, FormulaRefusal>
+    ensures formula { IfOk result (λ formula. formula_of text ≡ Ok formula) }
+    ensures edges { IfOk result (λ formula. formula.edges ≡ []) }
+    ensures few { IfOk result (λ formula. formula.vars < 2 ^ 31) }
+    ensures fault { IfErr result (λ refusal. Refuses (formula_of text) refusal) }
+{
+    dimacs_format::read(alloc, text.as_slice())
 }
 
 /// The reply to an answer to the formula, through the map of a text.
@@ -77,27 +72,35 @@ fn reply_through(
     formula: &Formula,
     map: ByteList,
     answer: ByteList,
-) -> Result<Reply, Outcome>
+) -> Result<Reply<Answer>, Memory>
     requires edges { formula.now.edges ≡ [] }
     requires few { formula.now.vars < 2 ^ 31 }
-    ensures ok { IfOk result (λ reply. Replying (OfMap formula.now (map_of map) answer) reply) }
-    ensures err { IfErr result (λ outcome. RefusedBy (OfMap formula.now (map_of map) answer) outcome) }
+    ensures { IfOk result (λ r. Replying (OfMap formula.now (map_of map) answer)
+        r.answer r.made r.said) }
 {
     let map = match map_in(alloc, map) {
         Ok(map) => map,
-        Err(outcome) => return Err(outcome),
+        Err(MapRefusal::At { line, kind }) => {
+            return Ok(refused(alloc, 2, line, Kind::Map(kind)));
+        }
+        Err(MapRefusal::Memory) => return Err(Memory),
     };
     if formula.vars != map.vars {
-        return Err(Outcome::Refused {
-            file: 2,
-            line: 0,
-            kind: Kind::Mismatch {
-                formula_vars: formula.vars,
-                map_vars: map.vars,
-            },
-        });
+        let kind = Kind::Mismatch {
+            formula_vars: formula.vars,
+            map_vars: map.vars,
+        };
+        return Ok(refused(alloc, 2, 0, kind));
     }
     reply_over(alloc, formula, &map, answer)
+}
+
+/// The map of a text, which is let go.
+fn map_in(alloc: Global, text: ByteList) -> Result<SymbolMap, MapRefusal>
+    ensures map { IfOk result (λ m. map_of text ≡ Ok m) }
+    ensures fault { IfErr result (λ refusal. Refuses (map_of text) refusal) }
+{
+    symbol_map::read(alloc, text.as_slice())
 }
 
 /// The reply to an answer to the formula, through a map of as many variables.
@@ -106,66 +109,28 @@ fn reply_over(
     formula: &Formula,
     map: &SymbolMap,
     answer: ByteList,
-) -> Result<Reply, Outcome>
+) -> Result<Reply<Answer>, Memory>
     requires edges { formula.now.edges ≡ [] }
     requires few { formula.now.vars < 2 ^ 31 }
     requires same { formula.now.vars ≡ map.now.vars }
-    ensures ok { IfOk result (λ reply. Replying (OfAnswer formula.now map.now (answer_of answer formula.now.vars)) reply) }
-    ensures err { IfErr result (λ outcome. RefusedBy (OfAnswer formula.now map.now (answer_of answer formula.now.vars)) outcome) }
+    ensures { IfOk result (λ r. Replying (OfAnswer formula.now map.now (answer_of answer formula.now.vars))
+        r.answer r.made r.said) }
 {
     match answer_in(alloc, answer, formula.vars) {
-        Ok(Answer::Values(values)) => Ok(judgement(alloc, formula, map, &values)?),
-        Ok(Answer::NoModel | Answer::Unknown) => Ok(no_model(alloc)?),
-        Err(outcome) => Err(outcome),
+        Ok(back_map::Answer::Values(values)) => judgement(alloc, formula, map, &values),
+        Ok(back_map::Answer::NoModel | back_map::Answer::Unknown) => no_model(alloc),
+        Err(AnswerRefusal::At { line, kind }) => Ok(refused(alloc, 3, line, Kind::Answer(kind))),
+        Err(AnswerRefusal::Memory) => Err(Memory),
     }
 }
 
-fn formula_in(alloc: Global, text: ByteList) -> Result<Formula, Outcome>
-    ensures ok { IfOk result (λ F. formula_of text ≡ Ok F) }
-    ensures edges { IfOk result (λ F. F.edges ≡ []) }
-    ensures few { IfOk result (λ F. F.vars < 2 ^ 31) }
-    ensures err { IfErr result (λ outcome. (table answer : List ℕ) → RefusedBy (OfFormula (formula_of text) table answer) outcome) }
-{
-    match dimacs_format::read(alloc, text.as_slice()) {
-        Ok(formula) => Ok(formula),
-        Err(FormulaRefusal::At { line, kind }) => Err(Outcome::Refused {
-            file: 1,
-            line,
-            kind: Kind::Formula(kind),
-        }),
-        Err(FormulaRefusal::Memory) => Err(Outcome::Memory),
-    }
-}
-
-fn map_in(alloc: Global, text: ByteList) -> Result<SymbolMap, Outcome>
-    ensures ok { IfOk result (λ m. map_of text ≡ Ok m) }
-    ensures err { IfErr result (λ outcome. (F : Clauses) (answer : List ℕ) → RefusedBy (OfMap F (map_of text) answer) outcome) }
-{
-    match symbol_map::read(alloc, text.as_slice()) {
-        Ok(map) => Ok(map),
-        Err(MapRefusal::At { line, kind }) => Err(Outcome::Refused {
-            file: 2,
-            line,
-            kind: Kind::Map(kind),
-        }),
-        Err(MapRefusal::Memory) => Err(Outcome::Memory),
-    }
-}
-
-fn answer_in(alloc: Global, text: ByteList, vars: u32) -> Result<Answer, Outcome>
+/// The answer of a text to a formula of so many variables. The text is let go.
+fn answer_in(alloc: Global, text: ByteList, vars: u32) -> Result<back_map::Answer, AnswerRefusal>
     requires { vars < 2 ^ 31 }
-    ensures ok { IfOk result (λ a. (x : Answered) × ((answer_of text vars ≡ Ok x) × Answers x vars a)) }
-    ensures err { IfErr result (λ outcome. (F : Clauses) (m : Symbols) → RefusedBy (OfAnswer F m (answer_of text vars)) outcome) }
+    ensures answer { IfOk result (λ a. (x : Answered) × ((answer_of text vars ≡ Ok x) × Answers x vars a)) }
+    ensures fault { IfErr result (λ refusal. Refuses (answer_of text vars) refusal) }
 {
-    match read_answer(alloc, text.as_slice(), vars) {
-        Ok(answer) => Ok(answer),
-        Err(AnswerRefusal::At { line, kind }) => Err(Outcome::Refused {
-            file: 3,
-            line,
-            kind: Kind::Answer(kind),
-        }),
-        Err(AnswerRefusal::Memory) => Err(Outcome::Memory),
-    }
+    read_answer(alloc, text.as_slice(), vars)
 }
 
 /// The reply to values for the variables of the formula, which the map has too.
@@ -174,31 +139,31 @@ fn judgement(
     formula: &Formula,
     map: &SymbolMap,
     values: &Assignment,
-) -> Result<Reply, Memory>
+) -> Result<Reply<Answer>, Memory>
     requires edges { formula.now.edges ≡ [] }
     requires vars { length values.now ≡ formula.now.vars }
-    requires same { formula.now.vars ≡ map.now.vars }
-    ensures { IfOk result (λ reply. (x : Answered) → x.status ≡ statuses.Satisfied → ((v : ℕ) → true_in values.now v ≡ has (Pos v) x.lits) → Replying (Judges formula.now map.now x) reply) }
+    ensures { IfOk result (λ r. Replying (OnValues formula.now map.now (true_in values.now))
+        r.answer r.made r.said) }
 {
     match judge(alloc, formula, map, values) {
-        Ok(Judged::Accepted(seen)) => Ok(Reply {
-            outcome: Outcome::Done,
-            said: accepted_text(alloc, &seen)?,
-        }),
-        Ok(Judged::FalseClause(place)) => Ok(Reply {
-            outcome: Outcome::Rejected(Why::Clause(place)),
-            said: rejected_clause_text(alloc, place)?,
-        }),
+        Ok(Judged::Accepted(seen)) => {
+            Ok(saying(alloc, Answer::Done, accepted_text(alloc, &seen)?))
+        }
+        Ok(Judged::FalseClause(place)) => Ok(saying(
+            alloc,
+            Answer::Rejected(Why::Clause(place)),
+            rejected_clause_text(alloc, place)?,
+        )),
         // It is want of memory, since the numbers of variables are the same.
         Err(_) => Err(Memory),
     }
 }
 
-fn no_model(alloc: Global) -> Result<Reply, Memory>
-    ensures { IfOk result (λ reply. (reply.outcome ≡ Outcome.NoModelGiven) × (reply.said.items ≡ no_model_text)) }
+/// The reply to an answer without values.
+fn no_model(alloc: Global) -> Result<Reply<Answer>, Memory>
+    ensures answer { IfOk result (λ r. r.answer ≡ Answer.NoModelGiven) }
+    ensures made { IfOk result (λ r. r.made ≡ []) }
+    ensures said { IfOk result (λ r. r.said ≡ no_model_text) }
 {
-    Ok(Reply {
-        outcome: Outcome::NoModelGiven,
-        said: no_model_text(alloc)?,
-    })
+    Ok(saying(alloc, Answer::NoModelGiven, no_model_text(alloc)?))
 }

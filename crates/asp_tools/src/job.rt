@@ -1,114 +1,163 @@
-ghost use Rattle.std.specs.Prelude.{IfSome, IsTrue, ◌≢◌, ◌≡◌, ◌∷◌, [], drop};
-ghost use Rattle.std.specs.Option.{option_map};
-ghost use Rattle.asp_tools.specs.Job.{seen, is_name, are_names, job, of_two, of_three, HasNames, Sat, Back, Check};
+//! The job that words name: a command with the names of its files.
 
+ghost use Rattle.std.specs.Prelude.{◌≡◌, ◌<◌, ◌≤◌, true, MatchOption, drop, length, not};
+ghost use Rattle.std.specs.List.{list_all};
+ghost use Rattle.std.specs.Str.{bytes_eq};
+ghost use Rattle.job_shell.specs.Reads.{AllDiffer, names_of};
+ghost use Rattle.asp_tools.specs.Calls.{reads_of, writes_of};
+ghost use Rattle.asp_tools.specs.Job.{is_name, all_differ, are_names, job, job_with};
+
+use crate::command::Command;
+use arrayvec::ArrayVec;
 use asp_base::Words;
+use std::marker::Model;
 
-/// What the words ask for.
-#[derive(Clone, Copy)]
-pub enum Job<'a> {
-    /// `lp2sat IN OUT MAP`: the formula and the map of the program of IN.
-    Sat {
-        input: &'a str,
-        output: &'a str,
-        map: &'a str,
-    },
-    /// `back FORMULA MAP ANSWER`: what a solver's answer to the formula says of the program.
-    Back {
-        formula: &'a str,
-        map: &'a str,
-        answer: &'a str,
-    },
-    /// `check IN ATOMS`: whether the set of the atoms is a stable model of the program of IN.
-    Check {
-        input: &'a str,
-        atoms: &'a str,
-    },
+/// A job has at most so many names.
+const NAMES: usize = 3;
+
+/// A command with as many names as it reads and writes, which all differ. Contracts see the names by their bytes.
+#[derive(Drop)]
+pub struct Job<'a> {
+    command: Command,
+    names: ArrayVec<&'a str, NAMES>,
+}
+
+impl<'a> Model for Job<'a> {
+    ghost use Rattle.std.specs.Prelude.{take, drop};
+    ghost use Rattle.job_shell.specs.Reads.{names_of};
+    ghost use Rattle.asp_tools.specs.Calls.{reads_of};
+    ghost use Rattle.asp_tools.specs.Job.{SeenJob};
+    ghost use Rattle.asp_tools.specs.private.Names.{AreJobNames};
+
+    ghost Value = { SeenJob };
+
+    ghost view = { λ j. record {
+      command = j.command;
+      reads = take (reads_of j.command) (names_of j.names.items);
+      writes = drop (reads_of j.command) (names_of j.names.items);
+    } };
+
+    ghost invariant = { λ j. AreJobNames j.command (names_of j.names.items) };
+}
+
+impl<'a> Job<'a> {
+    /// The command.
+    pub fn command(&self) -> Command
+        ensures { result ≡ self.now.command }
+    {
+        self.command
+    }
+
+    /// The names that are read.
+    pub fn reads(&self) -> &[&'a str]
+        ensures names { names_of result.now ≡ self.now.reads }
+        ensures count { length result.now ≡ reads_of self.now.command }
+        ensures differ { AllDiffer (names_of result.now) }
+    {
+        &self.names.as_slice()[..self.command.reads()]
+    }
+
+    /// The names that are written.
+    pub fn writes(&self) -> &[&'a str]
+        ensures names { names_of result.now ≡ self.now.writes }
+        ensures count { length result.now ≡ writes_of self.now.command }
+        ensures differ { AllDiffer (names_of result.now) }
+    {
+        &self.names.as_slice()[self.command.reads()..]
+    }
+
+    /// The name of a file by its place among the job's names, from 1. A place that the job does not have has an empty
+    /// name.
+    pub fn name_of(&self, file: u32) -> &'a str {
+        match (file as usize).checked_sub(1) {
+            Some(index) if index < self.names.len() => self.names.as_slice()[index],
+            _ => "",
+        }
+    }
 }
 
 /// The job that the words name. A name is not empty, does not begin with `-`, and differs from the others.
 pub fn job_of<'a>(words: &'a Words) -> Option<Job<'a>>
-    ensures job { option_map seen result ≡ job words.now }
-    ensures names { IfSome (option_map seen result) HasNames }
+    ensures { result ≡ job words.now }
 {
-    match words.word(1)? {
-        "lp2sat" => sat_of(words),
-        "back" => back_of(words),
-        "check" => check_of(words),
-        _ => None,
-    }
+    let command = Command::of_word(words.word(1)?)?;
+    job_with(command, words)
 }
 
-fn sat_of<'a>(words: &'a Words) -> Option<Job<'a>>
-    ensures job { option_map seen result ≡ of_three Sat (drop 1 words.now) }
-    ensures names { IfSome (option_map seen result) HasNames }
+/// The job of a command with the names behind its word.
+fn job_with<'a>(command: Command, words: &'a Words) -> Option<Job<'a>>
+    requires { 0 < length words.now }
+    ensures { result ≡ job_with command (drop 1 words.now) }
 {
-    if words.count() != 4 {
+    if words.count() != (1 + command.reads() + command.writes()) as u64 {
         return None;
     }
-    let input = words.word(2)?;
-    let output = words.word(3)?;
-    let map = words.word(4)?;
-    if differ(input, output, map) {
-        Some(Job::Sat { input, output, map })
+    let names = names_behind(words)?;
+    if are_names(names.as_slice()) {
+        Some(Job { command, names })
     } else {
         None
     }
 }
 
-fn back_of<'a>(words: &'a Words) -> Option<Job<'a>>
-    ensures job { option_map seen result ≡ of_three Back (drop 1 words.now) }
-    ensures names { IfSome (option_map seen result) HasNames }
+/// The words behind the first.
+fn names_behind<'a>(words: &'a Words) -> Option<ArrayVec<&'a str, NAMES>>
+    requires some { 0 < length words.now }
+    requires few { length words.now ≤ 4 }
+    ensures { MatchOption result ⊥ (λ names. names_of names.items ≡ drop 1 words.now) }
 {
-    if words.count() != 4 {
-        return None;
+    let mut names = ArrayVec::new();
+    for place in 2..words.count() + 1 {
+        names.push(words.word(place)?);
     }
-    let formula = words.word(2)?;
-    let map = words.word(3)?;
-    let answer = words.word(4)?;
-    if differ(formula, map, answer) {
-        Some(Job::Back {
-            formula,
-            map,
-            answer,
-        })
-    } else {
-        None
-    }
-}
-
-fn check_of<'a>(words: &'a Words) -> Option<Job<'a>>
-    ensures job { option_map seen result ≡ of_two Check (drop 1 words.now) }
-    ensures names { IfSome (option_map seen result) HasNames }
-{
-    if words.count() != 3 {
-        return None;
-    }
-    let input = words.word(2)?;
-    let atoms = words.word(3)?;
-    if two_differ(input, atoms) {
-        Some(Job::Check { input, atoms })
-    } else {
-        None
-    }
+    Some(names)
 }
 
 /// Whether these are names, each another.
-fn two_differ(a: &str, b: &str) -> bool
-    ensures names { result ≡ are_names (a.now ∷ b.now ∷ []) }
-    ensures others { IsTrue result → a.now ≢ b.now }
+fn are_names(names: &[&str]) -> bool
+    ensures names { result ≡ are_names (names_of names.now) }
+    ensures others { result ≡ true → AllDiffer (names_of names.now) }
 {
-    is_a_name(a) && is_a_name(b) && a != b
+    all_names(names) && all_differ(names)
 }
 
-/// Whether these are names, each another.
-fn differ(a: &str, b: &str, c: &str) -> bool
-    ensures names { result ≡ are_names (a.now ∷ b.now ∷ c.now ∷ []) }
-    ensures others { IsTrue result → (a.now ≢ b.now) × (a.now ≢ c.now) × (b.now ≢ c.now) }
+/// Whether each of these is a name.
+fn all_names(names: &[&str]) -> bool
+    ensures { result ≡ list_all (λ name. is_name name.now) names.now }
 {
-    is_a_name(a) && is_a_name(b) && is_a_name(c) && a != b && a != c && b != c
+    for name in names {
+        if !is_a_name(name) {
+            return false;
+        }
+    }
+    true
 }
 
+/// Whether each of these differs from those behind it.
+fn all_differ(names: &[&str]) -> bool
+    ensures { result ≡ all_differ (names_of names.now) }
+{
+    for place in 0..names.len() {
+        if !differs(names[place], &names[place + 1..]) {
+            return false;
+        }
+    }
+    true
+}
+
+/// Whether the name differs from each of these.
+fn differs(name: &str, others: &[&str]) -> bool
+    ensures { result ≡ list_all (λ other. not (bytes_eq name.now other.now)) others.now }
+{
+    for other in others {
+        if name == *other {
+            return false;
+        }
+    }
+    true
+}
+
+/// Whether this is a name.
 fn is_a_name(name: &str) -> bool
     ensures { result ≡ is_name name.now }
 {

@@ -1,25 +1,22 @@
-//! The top call of the translators.
+//! The commands of the translators, and the top call that does the job which words name.
 #![tactic(auto)]
 
+mod answer;
 mod back;
-mod built;
 mod checking;
+mod command;
 mod complaint;
-mod input_map;
 mod job;
 pub mod laws;
 mod lp2sat;
 mod outcome;
 mod program_text;
-mod reply;
-mod saying;
-mod take_text;
+mod replies;
+mod sayings;
 mod tool;
-mod write;
 
+pub use answer::{Answer, Refused};
+pub use command::Command;
 pub use job::{Job, job_of};
 pub use outcome::{Kind, Outcome, Why};
 pub use tool::run;
-
-#[cfg(test)]
-mod tests;

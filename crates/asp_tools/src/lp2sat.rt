@@ -1,145 +1,88 @@
-ghost use Rattle.std.specs.Prelude.{ℕ, Some, length, ◌<◌, List, Ok, OnOk, ◌≡◌, ◌≢◌, ◌≤◌, ◌^◌, ◌-◌, ◌↔◌, None, IfOk, IfErr, true};
-ghost use Rattle.std.specs.Io.KnownBytes.{IsAtEnd};
-ghost use Rattle.asp_tools.specs.Ran.{SatRan, Stopped, HoldsProgram, formula_text, symbols_text};
-ghost use Rattle.asp_tools.specs.Reads.{WroteNothing, IsTooLong};
-ghost use Rattle.asp_tools.specs.Built.{is_built};
-ghost use Rattle.symbol_map.specs.MapWriting.{map_text};
-ghost use Rattle.asp_tools.specs.Headline.{Translates};
+//! `lp2sat`: from the text of a program to the texts of its formula and of its map.
+//!
+//! A text is let go once its program is read, the program once it is translated, and the formula once it is written.
+
+ghost use Rattle.std.specs.Prelude.{◌≡◌, ◌≤◌, ◌^◌, false, List, [], length, Ok, IfOk, if◌then◌else◌};
+ghost use Rattle.std.specs.List.{AllByRecursion};
+ghost use Rattle.asp_tools.specs.Calls.{makes};
 ghost use Rattle.asp_tools.specs.ProgramText.{program_of_text};
-ghost use Rattle.completion.specs.Normal.{AreNormal};
-ghost use Rattle.completion.specs.Completion.{completion};
-ghost use Rattle.ground_program.specs.Size.{size};
+ghost use Rattle.asp_tools.specs.SatInOrder.{SatInOrder};
+ghost use Rattle.asp_tools.specs.private.Replying.{AreTextsOf, SatReply, GroundReply};
+ghost use Rattle.sat_translation.specs.Translated.{IsCnf};
 
-use crate::built::is_built;
-use crate::input_map::input_map;
-use crate::outcome::{Kind, Outcome};
-use crate::program_text::read_program;
-use crate::take_text::take_text;
-use crate::write::{Cut, write_two};
-use asp_base::{Desk, Memory};
-use clause_store::Store;
-use completion::complete;
+use crate::answer::Answer;
+use crate::command::Command;
+use crate::outcome::Kind;
+use crate::program_text::program_in;
+use crate::replies::{refused, saying};
+use asp_base::{ByteList, Memory, VecList};
 use dimacs_format::write_cnf;
-use ground_program::{Program, ReadRefusal, size};
+use ground_program::{Program, ReadRefusal};
+use job_shell::{Output, Reply};
+use sat_translation::{TranslateRefusal, Translation, translate};
 use std::alloc::Global;
-use symbol_map::SymbolMap;
 
-/// A program that is translated has at most this size.
-const SIZE_LIMIT: u64 = 1 << 24;
-
-/// The texts that are written for a program.
-#[derive(Drop)]
-struct Texts {
-    formula: Vec<u8>,
-    map: Vec<u8>,
-}
-
-/// Writes the formula and the map of the program that the input names.
-pub(crate) fn lp2sat<'a, D: Desk<'a>>(
-    alloc: Global,
-    desk: &mut D,
-    input: &'a str,
-    output: &'a str,
-    map: &'a str,
-) -> Outcome
-    requires idle { (D.state desk.old).writing ≡ None }
-    requires differ { output.now ≢ map.now }
-    ensures ran { SatRan input.now output.now map.now (D.state desk.old) (D.state desk.new) result }
-    ensures too_long { IsTooLong (D.state desk.new) input.now ↔ (result ≡ Outcome.Refused 1 0 Kind.TextTooLong) }
+/// The reply to the text of a program.
+pub(crate) fn reply(alloc: Global, texts: VecList<ByteList>) -> Result<Reply<Answer>, Memory>
+    requires count { length texts ≡ 1 }
+    requires within { AllByRecursion (λ text. length text ≤ 2 ^ 30) texts }
+    ensures answers { IfOk result (λ r. SatInOrder texts r.answer r.made r.said) }
+    ensures made { IfOk result (λ r. length r.made ≡ (if makes Command.Lp2sat r.answer then 2 else 0)) }
+    ensures said { IfOk result (λ r. r.said ≡ []) }
 {
-    let program = match take_program(alloc, desk, input) {
-        Ok(program) => program,
-        Err(outcome) => return outcome,
-    };
-    if !is_built(&program) {
-        return Outcome::Refused {
-            file: 1,
-            line: 0,
-            kind: Kind::NotBuilt,
-        };
-    }
-    let number = size(&program);
-    if number > SIZE_LIMIT {
-        return Outcome::TooLarge { number };
-    }
-    let texts = match texts_of(alloc, program) {
-        Ok(texts) => texts,
-        Err(Memory) => return Outcome::Memory,
-    };
-    match write_two(
-        desk,
-        output,
-        texts.formula.as_slice(),
-        map,
-        texts.map.as_slice(),
-    ) {
-        Ok(()) => Outcome::Done,
-        Err(Cut::First) => Outcome::WriteFault { file: 2 },
-        Err(Cut::Second) => Outcome::WriteFault { file: 3 },
+    let mut texts = texts.into_vec();
+    match texts.pop() {
+        Some(text) => reply_to(alloc, text),
+        // There is a text.
+        None => Err(Memory),
     }
 }
 
-/// Takes the text of the input, and reads its program.
-fn take_program<'a, D: Desk<'a>>(
-    alloc: Global,
-    desk: &mut D,
-    input: &'a str,
-) -> Result<Program, Outcome>
-    ensures ok { IfOk result (λ program. HoldsProgram (D.state desk.old) input.now program × WroteNothing (D.state desk.old) (D.state desk.new) × (¬ IsTooLong (D.state desk.new) input.now)) }
-    ensures whole { OnOk result (((D.state desk.new).reading ≡ Some input.now) × IsAtEnd (D.state desk.new).left) }
-    ensures err { IfErr result (λ outcome. Stopped input.now (D.state desk.old) (D.state desk.new) outcome) }
-    ensures too_long { IfErr result (λ outcome. IsTooLong (D.state desk.new) input.now ↔ (outcome ≡ Outcome.Refused 1 0 Kind.TextTooLong)) }
+/// The reply to the text.
+fn reply_to(alloc: Global, text: ByteList) -> Result<Reply<Answer>, Memory>
+    requires { length text ≤ 2 ^ 30 }
+    ensures { IfOk result (λ r. SatReply (program_of_text text) r.answer r.made r.said) }
 {
-    let text = take_text(alloc, desk, input, 1)?;
-    match read_program(alloc, text.as_slice()) {
-        Ok(program) => Ok(program),
-        Err(ReadRefusal::At { line, kind }) => Err(Outcome::Refused {
-            file: 1,
-            line,
-            kind: Kind::Text(kind),
-        }),
-        Err(ReadRefusal::Memory) => Err(Outcome::Memory),
+    match program_in(alloc, text) {
+        Ok(program) => reply_on(alloc, program),
+        Err(ReadRefusal::At { line, kind }) => Ok(refused(alloc, 1, line, Kind::Text(kind))),
+        Err(ReadRefusal::Memory) => Err(Memory),
     }
 }
 
-/// The formula and the map of a program.
-fn texts_of(alloc: Global, program: Program) -> Result<Texts, Memory>
-    requires built { is_built program ≡ true }
-    requires small { size program ≤ 2 ^ 24 }
-    ensures formula { IfOk result (λ texts. texts.formula.items ≡ formula_text program) }
-    ensures map { IfOk result (λ texts. texts.map.items ≡ symbols_text program) }
-    ensures translates { OnOk result ((source : List ℕ) → program_of_text source ≡ Ok program → Translates source (formula_text program) (symbols_text program)) }
+/// The reply to a program.
+fn reply_on(alloc: Global, program: Program) -> Result<Reply<Answer>, Memory>
+    ensures { IfOk result (λ r. GroundReply program r.answer r.made r.said) }
 {
-    let (formula, vars) = formula_of(alloc, &program)?;
-    let map = input_map(alloc, program, vars)?;
-    Ok(Texts {
-        formula,
-        map: map_text_of(alloc, &map)?,
+    match translate(alloc, program) {
+        Ok(translation) => texts_of(alloc, translation),
+        Err(TranslateRefusal::NotBuilt) => Ok(refused(alloc, 1, 0, Kind::NotBuilt)),
+        Err(TranslateRefusal::TooLarge { number }) => {
+            Ok(saying(alloc, Answer::TooLarge { number }, Vec::new(alloc)))
+        }
+        Err(TranslateRefusal::Memory) => Err(Memory),
+    }
+}
+
+/// The texts of a formula and of a map.
+fn texts_of(alloc: Global, translation: Translation) -> Result<Reply<Answer>, Memory>
+    requires { IsCnf translation.formula }
+    ensures answer { IfOk result (λ r. r.answer ≡ Answer.Done) }
+    ensures texts { IfOk result (λ r. AreTextsOf translation.formula translation.map r.made) }
+    ensures said { IfOk result (λ r. r.said ≡ []) }
+{
+    let Translation { formula, map } = translation;
+    let mut target = Vec::new(alloc);
+    write_cnf(&formula, &mut target)?;
+    drop(formula);
+    let mut table = Vec::new(alloc);
+    symbol_map::write(&map, &mut table)?;
+    let mut made = VecList::new(alloc);
+    made.push(Output::from_text(target))?;
+    made.push(Output::from_text(table))?;
+    Ok(Reply {
+        answer: Answer::Done,
+        made,
+        said: VecList::new(alloc),
     })
-}
-
-/// The text of a map, which fits memory.
-fn map_text_of(alloc: Global, map: &SymbolMap) -> Result<Vec<u8>, Memory>
-    ensures text { IfOk result (λ text. text.items ≡ map_text map.now) }
-    ensures short { OnOk result (length (map_text map.now) < 2 ^ 63) }
-{
-    let mut text = Vec::new(alloc);
-    symbol_map::write(map, &mut text)?;
-    Ok(text)
-}
-
-/// The text of the completion of a program, and its number of variables.
-fn formula_of(alloc: Global, program: &Program) -> Result<(Vec<u8>, u32), Memory>
-    requires normal { AreNormal program.now.rules }
-    requires small { size program.now ≤ 2 ^ 24 }
-    ensures text { IfOk result (λ p. p.0.items ≡ formula_text program.now) }
-    ensures vars { IfOk result (λ p. p.1 ≡ (completion program.now).vars) }
-    ensures room { IfOk result (λ p. p.1 ≤ 2 ^ 31 - 1) }
-{
-    let mut store = Store::new(alloc, program.atoms.as_slice().len() as u32);
-    complete(alloc, program, &mut store)?;
-    let formula = store.finish(1);
-    let mut text = Vec::new(alloc);
-    write_cnf(&formula, &mut text)?;
-    Ok((text, formula.vars))
 }

@@ -1,10 +1,15 @@
-ghost use Rattle.std.specs.Prelude.{◌≡◌};
-ghost use Rattle.asp_tools.specs.Outcome.{status_of, outcome_of};
+//! How a run ends.
 
-use asp_base::{Memory, TakeFault, Walk};
+ghost use Rattle.std.specs.Prelude.{◌≡◌, ◌≤◌, false, length};
+ghost use Rattle.asp_tools.specs.Outcome.{status_of, outcome_of, of_answer};
+ghost use Rattle.asp_tools.specs.private.TooLong.{is_long, is_too_long};
+
+use crate::answer::Answer;
+use asp_base::Walk;
 use back_map::AnswerKind;
 use dimacs_format::FormulaKind;
 use ground_program::{AtomSet, ReadKind};
+use job_shell::Ended;
 use symbol_map::MapKind;
 
 /// What is wrong with an input.
@@ -24,6 +29,23 @@ pub enum Kind {
     Mismatch { formula_vars: u32, map_vars: u32 },
     /// The program has a part that is not translated yet. Line 0.
     NotBuilt,
+}
+
+impl Kind {
+    /// The name of the kind, at most 17 bytes.
+    pub fn name(self) -> &'static str
+        ensures { length result.now ≤ 17 }
+    {
+        match self {
+            Kind::TextTooLong => "TextTooLong",
+            Kind::Text(kind) => kind.name(),
+            Kind::Formula(kind) => kind.name(),
+            Kind::Map(kind) => kind.name(),
+            Kind::Answer(kind) => kind.name(),
+            Kind::Mismatch { .. } => "Mismatch",
+            Kind::NotBuilt => "NotBuilt",
+        }
+    }
 }
 
 /// Why what was given is not accepted.
@@ -83,28 +105,34 @@ impl Outcome {
     }
 }
 
-impl From<Memory> for Outcome {
-    ghost use Rattle.std.specs.Prelude.{◌≡◌};
-    ghost use Rattle.asp_tools.specs.declared.outcome.Outcome.TheVariants as outcomes;
-
-    ghost from_gives = { λ _ e. e ≡ outcomes.Memory };
-
-    fn from(_: Memory) -> Outcome {
-        Outcome::Memory
-    }
-}
-
-/// The outcome of a text that was not taken.
-pub(crate) fn outcome_of(fault: TakeFault, file: u32) -> Outcome
-    ensures { result ≡ outcome_of fault file }
+/// The outcome of a job that ended so.
+pub(crate) fn outcome_of(ended: Ended<Answer>) -> Outcome
+    ensures is { result ≡ outcome_of ended }
+    ensures short { is_too_long ended ≡ is_long result }
 {
-    match fault {
-        TakeFault::ReadFault => Outcome::ReadFault { file },
-        TakeFault::TextTooLong => Outcome::Refused {
+    match ended {
+        Ended::Answered(answer) => of_answer(answer),
+        Ended::TooLong { file } => Outcome::Refused {
             file,
             line: 0,
             kind: Kind::TextTooLong,
         },
-        TakeFault::Memory => Outcome::Memory,
+        Ended::ReadFault { file } => Outcome::ReadFault { file },
+        Ended::WriteFault { file } => Outcome::WriteFault { file },
+        Ended::Memory => Outcome::Memory,
+    }
+}
+
+/// The outcome of a job with this answer.
+fn of_answer(answer: Answer) -> Outcome
+    ensures is { result ≡ of_answer answer }
+    ensures short { is_long result ≡ false }
+{
+    match answer {
+        Answer::Done => Outcome::Done,
+        Answer::Refused(refused) => refused.outcome(),
+        Answer::Rejected(why) => Outcome::Rejected(why),
+        Answer::NoModelGiven => Outcome::NoModelGiven,
+        Answer::TooLarge { number } => Outcome::TooLarge { number },
     }
 }

@@ -1,17 +1,25 @@
-ghost use Rattle.std.specs.Prelude.{◌≡◌, ◌≤◌, ◌^◌, List, ℕ, length, Ok, IfOk, IfErr};
-ghost use Rattle.ground_program.specs.Reading.{Refuses};
-ghost use Rattle.asp_tools.specs.ProgramText.{begins_aspif, program_of_text};
-ghost use Rattle.asp_tools.specs.CheckAnswers.{OfProgram};
-ghost use Rattle.asp_tools.specs.Said.{RefusedBy};
+//! The program of a text of either format.
 
-use crate::outcome::{Kind, Outcome};
+ghost use Rattle.std.specs.Prelude.{◌≡◌, ◌≤◌, ◌^◌, length, Ok, IfOk, IfErr};
+ghost use Rattle.asp_base.specs.Faults.{Refuses};
+ghost use Rattle.asp_tools.specs.ProgramText.{begins_aspif, program_of_text};
+
 use asp_base::ByteList;
 use ground_program::{Program, ReadRefusal};
 use std::alloc::Global;
 
-/// The program of a text: aspif where it begins with `asp `, else smodels.
-pub(crate) fn read_program(alloc: Global, text: &[u8]) -> Result<Program, ReadRefusal>
-    requires { length text.now ≤ 2 ^ 32 }
+/// The program of a text: aspif where it begins with `asp `, else smodels. The text is let go.
+pub(crate) fn program_in(alloc: Global, text: ByteList) -> Result<Program, ReadRefusal>
+    requires { length text ≤ 2 ^ 30 }
+    ensures program { IfOk result (λ program. program_of_text text ≡ Ok program) }
+    ensures fault { IfErr result (λ refusal. Refuses (program_of_text text) refusal) }
+{
+    read_program(alloc, text.as_slice())
+}
+
+/// The program of the bytes of a text.
+fn read_program(alloc: Global, text: &[u8]) -> Result<Program, ReadRefusal>
+    requires { length text.now ≤ 2 ^ 30 }
     ensures program { IfOk result (λ program. program_of_text text.now ≡ Ok program) }
     ensures fault { IfErr result (λ refusal. Refuses (program_of_text text.now) refusal) }
 {
@@ -19,22 +27,5 @@ pub(crate) fn read_program(alloc: Global, text: &[u8]) -> Result<Program, ReadRe
         aspif_format::read(alloc, text)
     } else {
         smodels_format::read(alloc, text)
-    }
-}
-
-/// The program of the text of the first file.
-pub(crate) fn program_in(alloc: Global, text: ByteList) -> Result<Program, Outcome>
-    requires { length text ≤ 2 ^ 32 }
-    ensures ok { IfOk result (λ program. program_of_text text ≡ Ok program) }
-    ensures err { IfErr result (λ outcome. (atoms : List ℕ) → RefusedBy (OfProgram (program_of_text text) atoms) outcome) }
-{
-    match read_program(alloc, text.as_slice()) {
-        Ok(program) => Ok(program),
-        Err(ReadRefusal::At { line, kind }) => Err(Outcome::Refused {
-            file: 1,
-            line,
-            kind: Kind::Text(kind),
-        }),
-        Err(ReadRefusal::Memory) => Err(Outcome::Memory),
     }
 }

@@ -1,14 +1,19 @@
 -- The program of the draft that a program's lines make is that program.
-use Rattle.std.proofs.Common.{◌≡◌, refl, sym, ◌∙◌, ap, ℕ, ◌^◌, ◌==◌, Bool, true, false, cond, not, ◌&&◌, ◌||◌, List, [], ◌∷◌, ◌++◌, map, inl, inr, ⊎_elim, append_assoc, append-nil}
+use Rattle.std.proofs.Common.{◌≡◌, refl, sym, ◌∙◌, ap, ℕ, ◌^◌, ◌==◌, Bool, true, false, cond, not, ◌&&◌, ◌||◌, List, [], ◌∷◌, ◌++◌, map, inl, inr, append_assoc, append-nil}
 use Rattle.std.specs.Prelude.{pos, ◌⊎◌}
 use Rattle.std.specs.List.{AllByRecursion, list_any, flat_map, filter}
-use Rattle.std.proofs.lemmas.Bool.{or_cases, or_left, or_right, cases_Bool, cond_both, cond-true, eqb-true}
+use Rattle.std.proofs.lemmas.Bool.{cond_both, eqb-true}
 use Rattle.asp_base.specs.Literal.{Literal, atom_of}
+use Rattle.std.proofs.lemmas.List.Concat.{flat_map-append}
+use Rattle.std.proofs.lemmas.List.Folds.{flat_map-map}
+use Rattle.std.proofs.lemmas.Map.Views.{any-filter_same}
 use Rattle.asp_base.specs.Sets.{members}
+use Rattle.asp_base.proofs.Each.{each-append, each-flat_map, each-map, each-member, each-weaker}
 use Rattle.ground_program.specs.Ground.{Ground}
 use Rattle.ground_program.specs.Draft.{Draft, atoms_of_draft, external_rule, external_rules, heads_rule, value_of, program_of}
 use Rattle.ground_program.specs.Facts.{Among, IsProgram, RuleFits, ConditionFits, LevelFits, ShowFits, FitsWeight, FitsBodyWeight, HeadFits, BodyFits}
-use Rattle.ground_program.specs.Occurrences.{atoms_of_literals, atoms_of_items, atoms_of_head, atoms_of_body, atoms_of_rule, atoms_of_parts, rising}
+use Rattle.ground_program.specs.Occurrences.{atoms_of_literals, atoms_of_items, atoms_of_head, atoms_of_body, atoms_of_rule, atoms_of_parts}
+use Rattle.rising_numbers.specs.Rising.{rising}
 use Rattle.ground_program.specs.declared.program.Head.{Head}
 use Rattle.ground_program.specs.declared.program.Head.TheVariants.{Nothing, One, Choice}
 use Rattle.ground_program.specs.declared.program.Body.{Body}
@@ -17,12 +22,10 @@ use Rattle.ground_program.specs.declared.program.Rule.{Rule}
 use Rattle.ground_program.specs.declared.program.Level.{Level}
 use Rattle.ground_program.specs.declared.builder.External.{External}
 use Rattle.ground_program.specs.declared.builder.External.TheVariants.{False, Release}
-use Rattle.ground_program.proofs.RisingLaws.{Ascends-rising, Ascends-from_rises, members-rising, same_rising}
-use Rattle.aspif_format.specs.AspifText.{idle_atoms, parts}
-use Rattle.aspif_format.proofs.Lists.{All-each, All-append, All-map, All-joined, flat_map-append, flat_map-map, joined, map-joined}
-use Rattle.aspif_format.proofs.PartLaws.{joined-parts}
+use Rattle.rising_numbers.proofs.RisingLaws.{Ascends-from_rises, members-append, rising-is}
+use Rattle.aspif_format.specs.Written.{idle_atoms, parts}
+use Rattle.aspif_format.proofs.PartLaws.{map-joined, joined-parts}
 use Rattle.aspif_format.proofs.LevelParts.{parts_of, level_at, levels-merged}
-use Rattle.aspif_format.proofs.FitLaws.{All-member}
 
 -- an external atom that is false
 abbrev pub false_setting : ℕ → ℕ × External
@@ -32,7 +35,7 @@ false_setting a = (a, False)
 abbrev pub written_draft : Ground → Draft
 written_draft P = record {
   rules = P.rules;
-  required = joined (parts P.required);
+  required = P.required;
   edges = P.edges;
   levels = flat_map parts_of P.levels;
   shows = P.shows;
@@ -51,10 +54,6 @@ false_value a (x ∷ xs) = cond_both ((x == a) && not (list_any (λ later. later
     (λ e. inl refl)
     (λ e. false_value a xs)
 
-same_choice : {X : Type 0} (b : Bool) (x : X) → cond b x x ≡ x
-same_choice true x = refl
-same_choice false x = refl
-
 none-of : {X : Type 0} (f : ℕ → List X) → ((a : ℕ) → f a ≡ []) → (xs : List ℕ) → flat_map f xs ≡ []
 none-of f h [] = refl
 none-of f h (x ∷ xs) = ap (λ ys. ys ++ flat_map f xs) (h x) ∙ none-of f h xs
@@ -62,7 +61,7 @@ none-of f h (x ∷ xs) = ap (λ ys. ys ++ flat_map f xs) (h x) ∙ none-of f h x
 no_external_rules : (rules : List Rule) (xs : List ℕ) → external_rules rules (map false_setting xs) ≡ []
 no_external_rules rules xs =
     none-of (λ a. cond (heads_rule rules a) [] (external_rule a (value_of a (map false_setting xs))))
-    (λ a. ap (λ made. cond (heads_rule rules a) [] made) (no_rules-of (value_of a (map false_setting xs)) (false_value a xs) a) ∙ same_choice (heads_rule rules a) [])
+    (λ a. ap (λ made. cond (heads_rule rules a) [] made) (no_rules-of (value_of a (map false_setting xs)) (false_value a xs) a) ∙ cond_both (heads_rule rules a) [] [] (λ made. made ≡ []) (λ e. refl) (λ e. refl))
     (rising (map (λ set. set.0) (map false_setting xs)))
 
 -- ---- the atoms of a draft are those that occur, and the idle ones
@@ -95,8 +94,7 @@ atoms_of-written P =
     let shows : List ℕ = flat_map (λ show. atoms_of_literals show.condition) P.shows in
     let levels : List ℕ = flat_map (λ level. atoms_of_items level.items) P.levels in
     let externals : List ℕ = map (λ set. set.0) (map false_setting (idle_atoms P)) in
-    ap (λ lits. rules ++ (atoms_of_literals lits ++ (edges ++ (flat_map (λ l. atoms_of_items l.items) (flat_map parts_of P.levels) ++ (shows ++ externals))))) (joined-parts P.required)
-    ∙ ap (λ xs. rules ++ (atoms_of_literals P.required ++ (edges ++ (xs ++ (shows ++ externals))))) (atoms_of-levels P.levels)
+    ap (λ xs. rules ++ (atoms_of_literals P.required ++ (edges ++ (xs ++ (shows ++ externals))))) (atoms_of-levels P.levels)
     ∙ ap (λ xs. rules ++ (atoms_of_literals P.required ++ (edges ++ (levels ++ (shows ++ xs))))) (settings-atoms (idle_atoms P))
     ∙ five-and-one rules (atoms_of_literals P.required) edges levels shows (idle_atoms P)
 
@@ -104,7 +102,7 @@ atoms_of-written P =
 
 module _ (F : ℕ → Type 0) where
   literals-atoms : (lits : List Literal) → AllByRecursion (λ l. F (atom_of l)) lits → AllByRecursion F (atoms_of_literals lits)
-  literals-atoms lits h = All-map F atom_of lits h
+  literals-atoms lits h = each-map F atom_of lits h
 
   head-atoms : (head : Head) → HeadFits F head → AllByRecursion F (atoms_of_head head)
   head-atoms Nothing h = tt
@@ -113,69 +111,44 @@ module _ (F : ℕ → Type 0) where
 
   body-atoms : (body : Body) → BodyFits F body → AllByRecursion F (atoms_of_body body)
   body-atoms (All lits) h = literals-atoms lits h.1
-  body-atoms (Sum bound items) h = All-map F (λ item. atom_of item.0) items (All-each (λ item. F (atom_of item.0) × FitsBodyWeight item.1) (λ item. F (atom_of item.0)) (λ item k. k.0) items h.2)
+  body-atoms (Sum bound items) h = each-map F (λ item. atom_of item.0) items (each-weaker (λ item. F (atom_of item.0) × FitsBodyWeight item.1) (λ item. F (atom_of item.0)) (λ item k. k.0) items h.2)
 
   rule-atoms : (rule : Rule) → RuleFits F rule → AllByRecursion F (atoms_of_rule rule)
-  rule-atoms rule h = All-append F (atoms_of_head rule.head) (atoms_of_body rule.body) (head-atoms rule.head h.0) (body-atoms rule.body h.1)
+  rule-atoms rule h = each-append F (atoms_of_head rule.head) (atoms_of_body rule.body) (head-atoms rule.head h.0) (body-atoms rule.body h.1)
 
   level-atoms : (level : Level) → LevelFits F level → AllByRecursion F (atoms_of_items level.items)
-  level-atoms level h = All-map F (λ item. atom_of item.0) level.items (All-each (λ item. F (atom_of item.0) × FitsWeight item.1) (λ item. F (atom_of item.0)) (λ item k. k.0) level.items h)
+  level-atoms level h = each-map F (λ item. atom_of item.0) level.items (each-weaker (λ item. F (atom_of item.0) × FitsWeight item.1) (λ item. F (atom_of item.0)) (λ item k. k.0) level.items h)
 
 parts-among : (P : Ground) → IsProgram P → AllByRecursion (Among P.atoms) (atoms_of_parts P)
 parts-among P h =
     let F : ℕ → Type 0 = Among P.atoms in
-    All-append F _ _ (All-joined F atoms_of_rule P.rules (All-each (RuleFits F) _ (rule-atoms F) P.rules h.rules))
-    (All-append F _ _ (literals-atoms F P.required h.required)
-    (All-append F _ _ (All-joined F (λ edge. atoms_of_literals edge.condition) P.edges (All-each (λ edge. ConditionFits F edge.condition) _ (λ edge k. literals-atoms F edge.condition k.1) P.edges h.edges))
-    (All-append F _ _ (All-joined F (λ level. atoms_of_items level.items) P.levels (All-each (LevelFits F) _ (level-atoms F) P.levels h.levels))
-    (All-joined F (λ show. atoms_of_literals show.condition) P.shows (All-each (ShowFits F) _ (λ show k. literals-atoms F show.condition k.1.1) P.shows h.shows)))))
+    each-append F _ _ (each-flat_map F atoms_of_rule P.rules (each-weaker (RuleFits F) _ (rule-atoms F) P.rules h.rules))
+    (each-append F _ _ (literals-atoms F P.required h.required)
+    (each-append F _ _ (each-flat_map F (λ edge. atoms_of_literals edge.condition) P.edges (each-weaker (λ edge. ConditionFits F edge.condition) _ (λ edge k. literals-atoms F edge.condition k.1) P.edges h.edges))
+    (each-append F _ _ (each-flat_map F (λ level. atoms_of_items level.items) P.levels (each-weaker (LevelFits F) _ (level-atoms F) P.levels h.levels))
+    (each-flat_map F (λ show. atoms_of_literals show.condition) P.shows (each-weaker (ShowFits F) _ (λ show k. literals-atoms F show.condition k.1.1) P.shows h.shows)))))
 
 -- ---- and every one of the program's occurs or is idle
 
-members-append : (xs ys : List ℕ) (a : ℕ) → members (xs ++ ys) a ≡ (members xs a || members ys a)
-members-append [] ys a = refl
-members-append (x ∷ xs) ys a = by (x == a) (members-append xs ys a)
-  where
-    by : (b : Bool) → members (xs ++ ys) a ≡ (members xs a || members ys a) → (b || members (xs ++ ys) a) ≡ ((b || members xs a) || members ys a)
-    by true h = refl
-    by false h = h
+members-filter : (p : ℕ → Bool) (xs : List ℕ) (a : ℕ) → members (filter p xs) a ≡ (p a && members xs a)
+members-filter p xs a = any-filter_same (λ x. x == a) p (p a) (λ x e. ap p (eqb-true x a e)) xs
 
-from-filter : (p : ℕ → Bool) (xs : List ℕ) (a : ℕ) → members (filter p xs) a ≡ true → members xs a ≡ true
-from-filter p [] a m = m
-from-filter p (x ∷ xs) a m = by (p x) m (from-filter p xs a)
-  where
-    by : (b : Bool) → members (cond b (x ∷ filter p xs) (filter p xs)) a ≡ true → (members (filter p xs) a ≡ true → members xs a ≡ true) → members (x ∷ xs) a ≡ true
-    by true m k = ⊎_elim (λ e. or_left _ _ e) (λ e. or_right _ _ (k e)) (or_cases _ _ m)
-    by false m k = or_right _ _ (k m)
-
-into-filter : (p : ℕ → Bool) (xs : List ℕ) (a : ℕ) → members xs a ≡ true → p a ≡ true → members (filter p xs) a ≡ true
-into-filter p [] a m h = m
-into-filter p (x ∷ xs) a m h = ⊎_elim
-    (λ e. let is : x ≡ a = eqb-true x a e in
-    ap (λ ys. members ys a) (cond-true (p x) (x ∷ filter p xs) (filter p xs) (ap p is ∙ h)) ∙ or_left _ _ e)
-    (λ e. by (p x) (into-filter p xs a e h))
-    (or_cases _ _ m)
-  where
-    by : (b : Bool) → members (filter p xs) a ≡ true → members (cond b (x ∷ filter p xs) (filter p xs)) a ≡ true
-    by true k = or_right _ _ k
-    by false k = k
+-- what is among all, and what of all is not there, make up all
+all-of : (b c : Bool) → (b ≡ true → c ≡ true) → (b || (not b && c)) ≡ c
+all-of true c h = sym (h refl)
+all-of false c h = refl
 
 atoms-are : (P : Ground) → IsProgram P → rising (atoms_of_draft (written_draft P)) ≡ P.atoms
 atoms-are P h =
     let occur : List ℕ = atoms_of_parts P in
-    let idle : List ℕ = idle_atoms P in
+    let other : ℕ → Bool = λ a. not (members occur a) in
     ap rising (atoms_of-written P)
-    ∙ same_rising (rising (occur ++ idle)) P.atoms (Ascends-rising (occur ++ idle)) (Ascends-from_rises 0 P.atoms h.atoms_rise)
-    (λ a m. ⊎_elim
-    (λ e. All-member (Among P.atoms) occur (parts-among P h) a e)
-    (λ e. from-filter (λ x. not (members occur x)) P.atoms a e)
-    (or_cases _ _ (sym (members-append occur idle a) ∙ (sym (members-rising (occur ++ idle) a) ∙ m))))
-    (λ a m. members-rising (occur ++ idle) a ∙ (members-append occur idle a ∙ ⊎_elim
-    (λ e. or_left _ _ e)
-    (λ e. or_right _ _ (into-filter (λ x. not (members occur x)) P.atoms a m (ap not e)))
-    (cases_Bool (members occur a))))
+    ∙ sym (rising-is (occur ++ filter other P.atoms) P.atoms (Ascends-from_rises 0 P.atoms h.atoms_rise)
+    (λ a. sym (members-append occur (filter other P.atoms) a
+    ∙ ap (λ m. members occur a || m) (members-filter other P.atoms a)
+    ∙ all-of (members occur a) (members P.atoms a) (λ m. each-member (Among P.atoms) occur a (parts-among P h) m))))
 
 pub program-of_written : (P : Ground) → IsProgram P → program_of (written_draft P) ≡ P
 program-of_written P h =
     let rules : P.rules ++ external_rules P.rules (map false_setting (idle_atoms P)) ≡ P.rules = ap (λ more. P.rules ++ more) (no_external_rules P.rules (idle_atoms P)) ∙ append-nil P.rules in
-    rw (atoms-are P h, rules, joined-parts P.required, levels-merged (pos (2 ^ 31)) P.levels h.priorities) refl
+    rw (atoms-are P h, rules, levels-merged (pos (2 ^ 31)) P.levels h.priorities) refl

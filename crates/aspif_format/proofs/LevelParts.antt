@@ -8,9 +8,9 @@ use Rattle.ground_program.specs.Draft.{into_levels, levels_onto}
 use Rattle.ground_program.specs.Facts.{FallsFrom}
 use Rattle.ground_program.specs.declared.program.Level.{Level}
 use Rattle.ground_program.proofs.LevelLaws.{goes-into}
-use Rattle.aspif_format.specs.AspifText.{parts}
-use Rattle.aspif_format.proofs.Lists.{All-each, All-append, joined}
-use Rattle.aspif_format.proofs.PartLaws.{joined-parts, some-parts}
+use Rattle.aspif_format.specs.Written.{parts}
+use Rattle.asp_base.proofs.Each.{each-append, each-weaker}
+use Rattle.aspif_format.proofs.PartLaws.{joined, joined-parts, some-parts}
 
 abbrev pub level_at : ℤ → List (Literal × ℤ) → Level
 level_at p items = record { priority = p; items = items }
@@ -19,7 +19,7 @@ level_at p items = record { priority = p; items = items }
 abbrev pub parts_of : Level → List Level
 parts_of level = map (level_at level.priority) (parts level.items)
 
-pub levels_onto-append : (levels xs ys : List Level) → levels_onto levels (xs ++ ys) ≡ levels_onto (levels_onto levels xs) ys
+levels_onto-append : (levels xs ys : List Level) → levels_onto levels (xs ++ ys) ≡ levels_onto (levels_onto levels xs) ys
 levels_onto-append levels [] ys = refl
 levels_onto-append levels (x ∷ xs) ys = levels_onto-append (into_levels x levels) xs ys
 
@@ -79,9 +79,9 @@ onto-merged : (high : ℤ) (levels done : List Level) → FallsFrom high levels 
 onto-merged high [] done falls from = sym (append-nil done)
 onto-merged high (level ∷ levels) done falls from =
     let below : level.priority <ℤ high = falls.0 in
-    let above : Above level.priority done = All-each (λ l. high ≤ℤ l.priority) (λ l. level.priority <ℤ l.priority) (λ l h. omega (arith, ints)) done from in
-    let next : FromOn level.priority (done ++ (level ∷ [])) = All-append (λ l. level.priority ≤ℤ l.priority) done (level ∷ [])
-    (All-each (λ l. high ≤ℤ l.priority) (λ l. level.priority ≤ℤ l.priority) (λ l h. omega (arith, ints)) done from) (omega (arith, ints), tt) in
+    let above : Above level.priority done = each-weaker (λ l. high ≤ℤ l.priority) (λ l. level.priority <ℤ l.priority) (λ l h. omega (arith, ints)) done from in
+    let next : FromOn level.priority (done ++ (level ∷ [])) = each-append (λ l. level.priority ≤ℤ l.priority) done (level ∷ [])
+    (each-weaker (λ l. high ≤ℤ l.priority) (λ l. level.priority ≤ℤ l.priority) (λ l h. omega (arith, ints)) done from) (omega (arith, ints), tt) in
     levels_onto-append done (parts_of level) (flat_map parts_of levels)
     ∙ ap (λ made. levels_onto made (flat_map parts_of levels)) (one-level level done above)
     ∙ onto-merged level.priority levels (done ++ (level ∷ [])) falls.1 next

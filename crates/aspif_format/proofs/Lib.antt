@@ -1,18 +1,15 @@
 pub mod AspifRoundTrip
 mod DraftText
-mod Ends
-mod Feeds
 mod FitLaws
 mod LevelParts
-mod LineSteps
-mod Lists
-mod Naturals
 mod NamesFit
+mod Naturals
 mod PartLaws
 mod PartSteps
 mod Required
 mod Rows
 mod Shows
+mod StatementLines
 mod StatementText
 mod WholeText
 mod WrittenLines

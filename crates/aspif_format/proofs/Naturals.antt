@@ -5,8 +5,8 @@ use Rattle.std.specs.List.{list_all}
 use Rattle.std.proofs.lemmas.Bool.{ltb-true, leb-true, leb-false, cond-false}
 use Rattle.std.proofs.lemmas.List.{take_all}
 use Rattle.asp_scan.specs.Tokens.{is_digit, digits_onto, natural_of, some_pos, some_neg}
-use Rattle.aspif_format.specs.Aspif.{is_natural}
-use Rattle.aspif_format.specs.Digits.{is_digit_to, are_digits_to}
+use Rattle.aspif_format.specs.Read.{is_natural}
+use Rattle.aspif_format.specs.private.Digits.{is_digit_to, are_digits_to}
 
 abbrev at_least_0 : Option ℤ → Bool
 at_least_0 number = elim number [ None ↦ false | Some n ↦ not (int_lt n (pos 0)) ]

@@ -1,14 +1,22 @@
 -- The parts of a list are short, and make it one behind another.
-use Rattle.std.proofs.Common.{◌≡◌, refl, ◌∙◌, ap, ℕ, zero, suc, ◌-◌, ◌^◌, ◌≤◌, ◌<◌, nat_le, List, [], ◌∷◌, ◌++◌, length, take, drop, append-nil, arith}
-use Rattle.std.specs.List.{AllByRecursion}
+use Rattle.std.proofs.Common.{◌≡◌, refl, sym, ◌∙◌, ap, subst, ℕ, zero, suc, ◌-◌, ◌^◌, ◌≤◌, ◌<◌, nat_le, List, [], ◌∷◌, ◌++◌, length, map, take, drop, append-nil, arith}
+use Rattle.std.specs.List.{AllByRecursion, flat_map}
 use Rattle.std.proofs.lemmas.Bool.{cond_both, leb-true, leb-false}
-use Rattle.std.proofs.lemmas.List.{take-append-drop, length-drop, length-take-le}
+use Rattle.std.proofs.lemmas.List.{map-append, take-append-drop, length-drop, length-take-le}
+use Rattle.asp_base.proofs.Each.{each-both, each-pieces}
 use Rattle.ground_program.specs.Facts.{IsShort}
-use Rattle.aspif_format.specs.AspifText.{parts_within, parts}
-use Rattle.aspif_format.proofs.Lists.{joined}
+use Rattle.aspif_format.specs.Written.{parts_within, parts}
+
+-- the lists of a list, one behind another
+abbrev pub joined : {A : Type 0} → List (List A) → List A
+joined lists = flat_map (λ xs. xs) lists
+
+pub map-joined : {A B : Type 0} (f : A → B) (lists : List (List A)) → flat_map (λ xs. map f xs) lists ≡ map f (joined lists)
+map-joined f [] = refl
+map-joined f (xs ∷ rest) = ap (λ ys. map f xs ++ ys) (map-joined f rest) ∙ sym (map-append f xs (joined rest))
 
 -- a list that one part holds, and a longer one
-pub parts-cases : {A : Type 0} (more most : ℕ) (xs : List A) (P : List (List A) → Type 0)
+parts-cases : {A : Type 0} (more most : ℕ) (xs : List A) (P : List (List A) → Type 0)
     → (length xs ≤ most → P (xs ∷ [])) → (most < length xs → P (take most xs ∷ parts_within more most (drop most xs))) → P (parts_within (suc more) most xs)
 parts-cases more most xs P short long =
     cond_both (nat_le (length xs) most) (xs ∷ []) (take most xs ∷ parts_within more most (drop most xs)) P
@@ -31,22 +39,6 @@ short-within (suc more) most xs = parts-cases more most xs (AllByRecursion (λ y
     (λ short. (short, tt))
     (λ long. (let size : length (take most xs) ≡ most = length-take-le most xs (omega arith) in omega arith, short-within more most (drop most xs)))
 
-All-take : {A : Type 0} (P : A → Type 0) (n : ℕ) (xs : List A) → AllByRecursion P xs → AllByRecursion P (take n xs)
-All-take P zero xs h = tt
-All-take P (suc n) [] h = tt
-All-take P (suc n) (x ∷ xs) h = (h.0, All-take P n xs h.1)
-
-All-drop : {A : Type 0} (P : A → Type 0) (n : ℕ) (xs : List A) → AllByRecursion P xs → AllByRecursion P (drop n xs)
-All-drop P zero xs h = h
-All-drop P (suc n) [] h = tt
-All-drop P (suc n) (x ∷ xs) h = All-drop P n xs h.1
-
-each-within : {A : Type 0} (P : A → Type 0) (fuel most : ℕ) (xs : List A) → AllByRecursion P xs → AllByRecursion (AllByRecursion P) (parts_within fuel most xs)
-each-within P zero most xs h = tt
-each-within P (suc more) most xs h = parts-cases more most xs (AllByRecursion (AllByRecursion P))
-    (λ short. (h, tt))
-    (λ long. (All-take P most xs h, each-within P more most (drop most xs) (All-drop P most xs h)))
-
 pub joined-parts : {A : Type 0} (xs : List A) → joined (parts xs) ≡ xs
 joined-parts xs = joined-within (suc (length xs)) (2 ^ 24) xs (omega arith) (omega arith)
 
@@ -54,14 +46,12 @@ joined-parts xs = joined-within (suc (length xs)) (2 ^ 24) xs (omega arith) (ome
 pub some-parts : {A : Type 0} (xs : List A) → 0 < length (parts xs)
 some-parts xs = parts-cases (length xs) (2 ^ 24) xs (λ ps. 0 < length ps) (λ short. omega arith) (λ long. omega arith)
 
-pub both : {A : Type 0} (P Q R : A → Type 0) → ((x : A) → P x → Q x → R x) → (xs : List A) → AllByRecursion P xs → AllByRecursion Q xs → AllByRecursion R xs
-both P Q R f [] h k = tt
-both P Q R f (x ∷ xs) h k = (f x h.0 k.0, both P Q R f xs h.1 k.1)
-
 -- each part is short, and what holds of each entry holds of those of a part
 pub each-part : {A : Type 0} (P : A → Type 0) (xs : List A) → AllByRecursion P xs → AllByRecursion (λ ys. IsShort ys × AllByRecursion P ys) (parts xs)
-each-part P xs h = both (λ ys. length ys ≤ 2 ^ 24) (AllByRecursion P) (λ ys. IsShort ys × AllByRecursion P ys) (λ ys s k. (s, k)) (parts xs)
-    (short-within (suc (length xs)) (2 ^ 24) xs) (each-within P (suc (length xs)) (2 ^ 24) xs h)
+each-part P xs h =
+    each-both (λ ys. length ys ≤ 2 ^ 24) (AllByRecursion P) (λ ys. IsShort ys × AllByRecursion P ys) (λ ys s k. (s, k)) (parts xs)
+    (short-within (suc (length xs)) (2 ^ 24) xs)
+    (each-pieces P (λ ys. ys) (parts xs) (subst (AllByRecursion P) (sym (joined-parts xs)) h))
 
 -- as many steps as there are entries suffice
 within-any : {A : Type 0} (f g most : ℕ) (xs : List A) → 0 < most → length xs < f → length xs < g → parts_within f most xs ≡ parts_within g most xs
@@ -81,6 +71,3 @@ parts-long xs long =
     (λ short. absurd (omega arith))
     (λ l. ap (λ ps. take (2 ^ 24) xs ∷ ps) (within-any (length xs) (suc (length (drop (2 ^ 24) xs))) (2 ^ 24) (drop (2 ^ 24) xs) (omega arith)
     (less-left (length xs) (2 ^ 24) xs (omega arith) (omega arith) long) (omega arith)))
-
-pub parts-short : {A : Type 0} (xs : List A) → length xs ≤ 2 ^ 24 → parts xs ≡ xs ∷ []
-parts-short xs short = parts-cases (length xs) (2 ^ 24) xs (λ ps. ps ≡ xs ∷ []) (λ s. refl) (λ l. absurd (omega arith))

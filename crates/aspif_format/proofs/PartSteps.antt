@@ -1,10 +1,9 @@
 -- A long list is written part by part.
-use Rattle.std.proofs.Common.{◌≡◌, refl, sym, ◌∙◌, ap, ℕ, ◌<◌, ◌^◌, min, ◌==◌, false, List, [], ◌∷◌, ◌++◌, length, take, drop, append_assoc, Result, Ok, Err, OnOk, OnErr, arith}
+use Rattle.std.proofs.Common.{◌≡◌, refl, sym, ◌∙◌, ap, ℕ, ◌<◌, ◌^◌, min, ◌==◌, false, List, [], ◌∷◌, ◌++◌, length, take, drop, append_assoc, arith}
 use Rattle.std.specs.List.{flat_map}
 use Rattle.std.proofs.lemmas.List.{length-take, take-append-le}
 use Rattle.asp_base.specs.Literal.{Literal}
-use Rattle.aspif_format.specs.AspifText.{required_line, required_lines, parts}
-use Rattle.statement_fields.proofs.Fronts.{front_kept}
+use Rattle.aspif_format.specs.Written.{required_line, required_lines, parts}
 use Rattle.aspif_format.proofs.PartLaws.{parts-long}
 
 -- what is written, and what is left to write, is the whole
@@ -29,13 +28,3 @@ front-grows old now new more h pushed =
 pub required_lines-some : (lits : List Literal) → false ≡ (length lits == 0) → flat_map required_line (parts lits) ≡ required_lines lits
 required_lines-some [] h = cc
 required_lines-some (l ∷ lits) h = refl
-
--- the same text, where the append may have failed
-pub on_ok-same : {T E : Type 0} (r : Result T E) (old new a b : List ℕ) → a ≡ b → OnOk r (new ≡ old ++ a) → OnOk r (new ≡ old ++ b)
-on_ok-same (Ok x) old new a b e h = h ∙ ap (λ bytes. old ++ bytes) e
-on_ok-same (Err x) old new a b e h = h
-
--- what began a list that an append grew, where a later append may have failed
-pub on_err-kept : {T E : Type 0} (r : Result T E) (xs ys rest zs : List ℕ) → ys ≡ xs ++ rest → OnErr r (take (length ys) zs ≡ ys) → OnErr r (take (length xs) zs ≡ xs)
-on_err-kept (Ok x) xs ys rest zs e h = h
-on_err-kept (Err x) xs ys rest zs e h = front_kept xs ys rest zs e h

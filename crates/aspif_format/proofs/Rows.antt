@@ -2,13 +2,13 @@
 use Rattle.std.proofs.Common.{◌≡◌, refl, ℕ, List, [], ◌∷◌, Result, Ok, Err, codes}
 use Rattle.asp_base.specs.Literal.{Literal, Pos, Neg}
 use Rattle.ground_program.specs.Ground.{Ground}
-use Rattle.ground_program.specs.Reading.{Fault}
+use Rattle.asp_base.specs.Faults.{Fault}
 use Rattle.ground_program.specs.declared.program.Head.TheVariants.{One, Choice}
 use Rattle.ground_program.specs.declared.program.Body.TheVariants.{All}
 use Rattle.ground_program.specs.declared.program.Rule.{Rule}
 use Rattle.ground_program.specs.declared.reading.ReadKind.{ReadKind}
 use Rattle.ground_program.specs.declared.reading.ReadKind.TheVariants as kinds
-use Rattle.aspif_format.specs.Aspif.{aspif_of}
+use Rattle.aspif_format.specs.Read.{aspif_of}
 
 abbrev of_rules : List ℕ → List Rule → Ground
 of_rules atoms rules = record { atoms = atoms; rules = rules; required = []; edges = []; levels = []; shows = [] }
@@ -16,7 +16,7 @@ of_rules atoms rules = record { atoms = atoms; rules = rules; required = []; edg
 abbrev rule : ℕ → List Literal → Rule
 rule a lits = record { head = One a; body = All lits }
 
-abbrev at : ℕ → ReadKind → Result Ground Fault
+abbrev at : ℕ → ReadKind → Result Ground (Fault ReadKind)
 at line kind = Err (record { line = line; kind = kind })
 
 even : aspif_of (codes "asp 1 0 0\n1 0 1 1 0 1 -2\n1 0 1 2 0 1 -1\n0\n") ≡ Ok (of_rules (1 ∷ 2 ∷ []) (rule 1 (Neg 2 ∷ []) ∷ rule 2 (Neg 1 ∷ []) ∷ []))

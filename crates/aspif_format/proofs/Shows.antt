@@ -6,11 +6,12 @@ use Rattle.asp_base.specs.Literal.{Literal}
 use Rattle.ground_program.specs.Draft.{Draft, with_show}
 use Rattle.ground_program.specs.declared.reading.ReadKind.{ReadKind}
 use Rattle.ground_program.specs.declared.reading.ReadKind.TheVariants as kinds
-use Rattle.statement_fields.specs.Fields.{◌>>=◌, counted, literal, name, past_blank, ended, Faults}
-use Rattle.statement_fields.specs.declared.fault.FieldFault.{FieldFault}
-use Rattle.statement_fields.specs.declared.fault.FieldFault.TheVariants as faults
+use Rattle.asp_base.specs.Faults.{◌>>=◌}
+use Rattle.statement_fields.specs.Fields.{counted, literal, name, past_blank, ended, Faults}
+use Rattle.asp_base.specs.declared.faults.LineFault.{LineFault}
+use Rattle.asp_base.specs.declared.faults.LineFault.TheVariants as faults
 use Rattle.statement_fields.proofs.PastBlank.{name-then}
-use Rattle.aspif_format.specs.Aspif.{show}
+use Rattle.aspif_format.specs.Read.{show}
 
 abbrev ended_at : Draft → Option (List ℕ × List ℕ) → Result Draft ReadKind
 ended_at draft token = elim token [ None ↦ Ok draft | Some token ↦ Err kinds.TrailingText ]
@@ -26,7 +27,7 @@ module _ (draft : Draft) (line text left : List ℕ) (named : past_blank (name l
   show-named : show draft line ≡ (counted literal left >>= condition_of draft text)
   show-named = name-then text left (condition_of draft) line named
 
-  pub show-fails : (fault : FieldFault) → Faults (counted literal left) fault → Faults (show draft line) fault
+  pub show-fails : (fault : LineFault ReadKind) → Faults (counted literal left) fault → Faults (show draft line) fault
   show-fails (faults.Kind kind) h = show-named ∙ ap (λ r. r >>= condition_of draft text) h
   show-fails faults.Memory h = tt
 

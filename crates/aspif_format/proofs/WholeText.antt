@@ -1,18 +1,16 @@
 -- The whole text, from what its pieces add.
-use Rattle.std.proofs.Common.{◌≡◌, refl, ◌∙◌, ap, ℕ, Bool, cond, not, List, [], ◌∷◌, ◌++◌, append_assoc, codes}
+use Rattle.std.proofs.Common.{◌≡◌, ◌∙◌, ap, ℕ, not, List, [], ◌∷◌, ◌++◌, append_assoc, codes}
 use Rattle.std.specs.List.{flat_map, filter}
+use Rattle.std.proofs.lemmas.List.Elements.{filter_agree}
 use Rattle.asp_base.specs.Sets.{members}
 use Rattle.asp_scan.specs.Words.{line_of}
 use Rattle.ground_program.specs.Ground.{Ground}
-use Rattle.ground_program.specs.Occurrences.{atoms_of_parts, rising}
-use Rattle.ground_program.proofs.RisingLaws.{members-rising}
-use Rattle.aspif_format.specs.AspifText.{rule_line, level_lines, show_line, edge_line, required_lines, external_line, idle_atoms, aspif_text}
-use Rattle.aspif_format.specs.PartsText.{parts_text}
+use Rattle.ground_program.specs.Occurrences.{atoms_of_parts}
+use Rattle.rising_numbers.specs.Rising.{rising}
+use Rattle.rising_numbers.proofs.RisingLaws.{members-rising}
+use Rattle.aspif_format.specs.Written.{rule_line, level_lines, show_line, edge_line, required_lines, external_line, idle_atoms, aspif_text}
+use Rattle.aspif_format.specs.private.PartsText.{parts_text}
 use Rattle.statement_fields.proofs.LinePieces.{three_appends}
-
-filter-same : (p q : ℕ → Bool) → ((a : ℕ) → p a ≡ q a) → (xs : List ℕ) → filter p xs ≡ filter q xs
-filter-same p q h [] = refl
-filter-same p q h (x ∷ xs) = ap (λ b. cond b (x ∷ filter p xs) (filter p xs)) (h x) ∙ ap (λ ys. cond (q x) (x ∷ ys) ys) (filter-same p q h xs)
 
 shape : (h r l s e q i z : List ℕ) → (h ++ (r ++ (l ++ (s ++ (e ++ q))))) ++ (i ++ z) ≡ h ++ (r ++ (l ++ (s ++ (e ++ (q ++ (i ++ z))))))
 shape h r l s e q i z = simp append_assoc
@@ -22,7 +20,7 @@ pub text-pushed : (P : Ground) (old o1 o2 o3 set atoms : List ℕ) → set ≡ r
 text-pushed P old o1 o2 o3 set atoms is named p q r =
     let idle : filter (λ a. not (members set a)) atoms ≡ idle_atoms P =
     ap (λ xs. filter (λ a. not (members set a)) xs) named
-    ∙ filter-same (λ a. not (members set a)) (λ a. not (members (atoms_of_parts P) a)) (λ a. ap (λ xs. not (members xs a)) is ∙ ap not (members-rising (atoms_of_parts P) a)) P.atoms in
+    ∙ filter_agree (λ a. not (members set a)) (λ a. not (members (atoms_of_parts P) a)) (λ a. ap (λ xs. not (members xs a)) is ∙ ap not (members-rising (atoms_of_parts P) a)) P.atoms in
     three_appends old o1 o2 o3 (parts_text P) (flat_map external_line (filter (λ a. not (members set a)) atoms)) (line_of (codes "0" ∷ [])) p q r
     ∙ ap (λ xs. old ++ (parts_text P ++ (flat_map external_line xs ++ line_of (codes "0" ∷ [])))) idle
     ∙ ap (λ bytes. old ++ bytes) (shape (line_of (codes "asp" ∷ codes "1" ∷ codes "0" ∷ codes "0" ∷ [])) (flat_map rule_line P.rules) (flat_map level_lines P.levels)

@@ -1,5 +1,3 @@
-pub mod Aspif
-pub mod AspifText
-pub mod Digits
-pub mod PartsText
-pub mod Steps
+pub mod Read
+pub mod Written
+pub mod private

@@ -1,17 +1,20 @@
+//! The header of a text: the words `asp 1 0` and a revision, which is a numeral of at least 0, of any length.
+
 ghost use Rattle.std.specs.Prelude.{◌≡◌, ◌∷◌, [], Ok, Err, IfOk, OnOk, IfErr};
 ghost use Rattle.ground_program.specs.Draft.{empty_draft};
-ghost use Rattle.ground_program.specs.Reading.{Refuses};
+ghost use Rattle.asp_base.specs.Faults.{Refuses};
 ghost use Rattle.asp_scan.specs.Scanning.{next};
-ghost use Rattle.aspif_format.specs.Aspif.{header, revision, tag, is_natural, statements, from_lines};
-ghost use Rattle.aspif_format.specs.Digits.{are_digits_to};
+ghost use Rattle.aspif_format.specs.Read.{header, revision, tag, is_natural, statements, from_lines};
+ghost use Rattle.aspif_format.specs.private.Digits.{are_digits_to};
 
 use asp_scan::Scan;
 use ground_program::{ReadKind, ReadRefusal};
 use statement_fields::word;
 
 /// The header of the text, in the first line that is not blank.
-pub fn header_line(scan: &mut Scan<'_>) -> Result<(), ReadRefusal>
-    ensures ok { OnOk result (from_lines scan.old.last scan.old.ahead ≡ statements scan.old.last empty_draft scan.new.ahead) }
+pub(crate) fn header_line(scan: &mut Scan<'_>) -> Result<(), ReadRefusal>
+    ensures ok { OnOk result
+        (from_lines scan.old.last scan.old.ahead ≡ statements scan.old.last empty_draft scan.new.ahead) }
     ensures err { IfErr result (λ refusal. Refuses (from_lines scan.old.last scan.old.ahead) refusal) }
     ensures last { scan.new.last ≡ scan.old.last }
     ensures ahead { (next scan.old).ahead ≡ scan.new.ahead }

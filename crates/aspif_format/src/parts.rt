@@ -1,7 +1,9 @@
+//! Heads and bodies of rules, each of a kind that a number before it tells.
+
 ghost use Rattle.std.specs.Prelude.{◌≡◌, ◌≤◌, ◌^◌, Ok, Err, IfOk, IfErr};
 ghost use Rattle.ground_program.specs.Facts.{IsAtom, HeadFits, BodyFits};
 ghost use Rattle.statement_fields.specs.Fields.{Faults};
-ghost use Rattle.aspif_format.specs.Aspif.{head, head_of_kind, plain_head, body, body_of_kind};
+ghost use Rattle.aspif_format.specs.Read.{head, head_of_kind, plain_head, body, body_of_kind};
 
 use asp_scan::Scan;
 use ground_program::{Body, Head, ReadKind};
@@ -9,7 +11,7 @@ use statement_fields::{FieldFault, atom, body_items, choice, count, literals, ma
 use std::alloc::Global;
 
 /// The head of a rule: a plain one or a choice, and its atoms.
-pub fn head(alloc: Global, scan: &mut Scan<'_>) -> Result<Head, FieldFault>
+pub(crate) fn head(alloc: Global, scan: &mut Scan<'_>) -> Result<Head, FieldFault>
     ensures ok { IfOk result (λ h. head scan.old.left ≡ Ok (h, scan.new.left)) }
     ensures err { IfErr result (λ fault. Faults (head scan.old.left) fault) }
     ensures fits { IfOk result (λ h. HeadFits IsAtom h) }
@@ -49,7 +51,7 @@ fn plain_head(scan: &mut Scan<'_>, n: u32) -> Result<Head, ReadKind>
 }
 
 /// The body of a rule: literals, or a bound and literals with weights.
-pub fn body(alloc: Global, scan: &mut Scan<'_>) -> Result<Body, FieldFault>
+pub(crate) fn body(alloc: Global, scan: &mut Scan<'_>) -> Result<Body, FieldFault>
     ensures ok { IfOk result (λ b. body scan.old.left ≡ Ok (b, scan.new.left)) }
     ensures err { IfErr result (λ fault. Faults (body scan.old.left) fault) }
     ensures fits { IfOk result (λ b. BodyFits IsAtom b) }

@@ -1,11 +1,13 @@
+//! Statements: each adds to the program, is read and dropped (projections, heuristics, comments), or ends the text.
+
 ghost use Rattle.std.specs.Prelude.{◌≡◌, ◌≤◌, Ok, Err, IfOk, OnOk, IfErr};
 ghost use Rattle.asp_base.specs.Literal.{atom_of};
 ghost use Rattle.ground_program.specs.Draft.{Draft, with_required};
 ghost use Rattle.ground_program.specs.Facts.{IsAtom, LiteralsFit};
-ghost use Rattle.statement_fields.specs.Feeds.{HasNoFeed};
+ghost use Rattle.asp_scan.specs.Feeds.{HasNoFeed};
 ghost use Rattle.statement_fields.specs.Fields.{Faults};
-ghost use Rattle.aspif_format.specs.Aspif.{rule, level, projection, show, external, external_value, required, heuristic, edge, by_number, statement};
-ghost use Rattle.aspif_format.specs.Steps.{statement_of};
+ghost use Rattle.aspif_format.specs.Read.{rule, level, projection, show, external, external_value, required, heuristic, edge, by_number, statement};
+ghost use Rattle.aspif_format.specs.private.Steps.{statement_of};
 
 use crate::parts::{body, head};
 use asp_base::{Lit, Memory};
@@ -19,19 +21,20 @@ use std::alloc::Global;
 
 /// Whether more statements may follow.
 #[derive(Clone, Copy)]
-pub enum Step {
+pub(crate) enum Step {
     On,
     End,
 }
 
 /// A statement: its number, and what stands behind it.
-pub fn statement(
+pub(crate) fn statement(
     alloc: Global,
     scan: &mut Scan<'_>,
     builder: &mut ProgramBuilder,
 ) -> Result<Step, FieldFault>
     requires { HasNoFeed scan.old.left }
-    ensures ok { IfOk result (λ step. statement builder.old scan.old.left ≡ Ok (statement_of step builder.new)) }
+    ensures ok { IfOk result
+        (λ step. statement builder.old scan.old.left ≡ Ok (statement_of step builder.new)) }
     ensures err { IfErr result (λ fault. Faults (statement builder.old scan.old.left) fault) }
     ensures end { IfOk result (λ step. step ≡ Step.End → builder.new ≡ builder.old) }
     ensures rest { scan.new ≡ record scan.old { left = scan.new.left } }

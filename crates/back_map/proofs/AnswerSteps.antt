@@ -1,27 +1,41 @@
 -- The answer at the end of a text.
-use Rattle.std.proofs.Common.{◌≡◌, refl, sym, ◌∙◌, ap, ℕ, List, None, get_or, Result, Ok, Err, IfOk}
+use Rattle.std.proofs.Common.{◌≡◌, refl, sym, ◌∙◌, ap, subst, ℕ, List, Result, Ok, Err, IfOk, IfErr}
+use Rattle.asp_base.specs.Faults.{Fault, Refuses, ◌>>=◌}
+use Rattle.asp_base.specs.declared.faults.Refusal.{Refusal}
 use Rattle.asp_scan.specs.Lines.{lines_of, end_line}
-use Rattle.back_map.specs.AnswerText.{Fault, Heard, Answered, heard_from, silence, with_end, answer_of}
-use Rattle.back_map.specs.Reading.{Hears, HearsOk, Answers, AnswersOk}
-use Rattle.back_map.specs.declared.answer_value.Answer.{Answer}
-use Rattle.back_map.specs.declared.hearing.Hearing.{Hearing}
+use Rattle.back_map.specs.Read.{Heard, Answered, Answers, heard_from, silence, with_end, answer_of}
+use Rattle.back_map.specs.declared.answer.Answer.{Answer}
+use Rattle.back_map.specs.declared.answer.AnswerKind.{AnswerKind}
+use Rattle.back_map.specs.private.Kept.{Kept}
+use Rattle.back_map.specs.private.Reading.{Hears, HearsOk, AnswersOk}
 
-pub zero-kept : {E : Type 0} (vars : ℕ) (read : Result Heard E) (hearing : Hearing) → HearsOk vars read hearing → get_or hearing.values.items 0 None ≡ None
-zero-kept vars (Ok heard) hearing h = h.table.zero
-zero-kept vars (Err e) hearing h = absurd h
+module _ (text : List ℕ) (n : ℕ) where
+  pub faulty : (fault : Fault AnswerKind) → heard_from n (lines_of text) silence ≡ Err fault → answer_of text n ≡ Err fault
+  faulty fault e = ap (λ r. r >>= with_end (end_line text)) e
 
-pub answered : {R : Type 0} (text : List ℕ) (vars last : ℕ) (hearing : Hearing) (result : Result Answer R) → last ≡ end_line text → HearsOk vars (heard_from vars (lines_of text) silence) hearing
-    → IfOk result (λ a. (heard : Heard) → Hears vars heard hearing → AnswersOk (with_end last heard) vars a)
-    → IfOk result (λ a. (x : Answered) × ((answer_of text vars ≡ Ok x) × Answers x vars a))
-answered text vars last hearing (Err e) end hears h = tt
-answered text vars last hearing (Ok a) end hears h = by (heard_from vars (lines_of text) silence) refl hears
-  where
-    ended : (heard : Heard) (r : Result Answered Fault) → heard_from vars (lines_of text) silence ≡ Ok heard → with_end last heard ≡ r → AnswersOk r vars a
-        → (x : Answered) × ((answer_of text vars ≡ Ok x) × Answers x vars a)
-    ended heard (Err fault) e is k = absurd k
-    ended heard (Ok x) e is k =
-        (x, (ap (λ r. elim r as (λ y. Result Answered Fault) [ Err fault ↦ Err fault | Ok more ↦ with_end (end_line text) more ]) e ∙ ap (λ n. with_end n heard) (sym end) ∙ is, k))
+  module _ (last : ℕ) (kept : Kept) (end : last ≡ end_line text) (hears : HearsOk n (heard_from n (lines_of text) silence) kept) where
+    record AtEnd : Type 0 where
+      heard : Heard
+      at : Hears n heard kept
+      is : answer_of text n ≡ with_end last heard
 
-    by : (read : Result Heard Fault) → heard_from vars (lines_of text) silence ≡ read → HearsOk vars read hearing → (x : Answered) × ((answer_of text vars ≡ Ok x) × Answers x vars a)
-    by (Err fault) e k = absurd k
-    by (Ok heard) e k = ended heard (with_end last heard) e refl (h heard k)
+    at_end : AtEnd
+    at_end = by (heard_from n (lines_of text) silence) refl hears
+      where
+        by : (read : Result Heard (Fault AnswerKind)) → heard_from n (lines_of text) silence ≡ read → HearsOk n read kept → AtEnd
+        by (Err fault) e k = absurd k
+        by (Ok heard) e k = record { heard = heard; at = k; is = ap (λ r. r >>= with_end (end_line text)) e ∙ ap (λ m. with_end m heard) (sym end) }
+
+    pub answered : {R : Type 0} (result : Result Answer R) → IfOk result (λ a. (n : ℕ) (heard : Heard) → Hears n heard kept → AnswersOk (with_end last heard) n a)
+        → IfOk result (λ a. (x : Answered) × ((answer_of text n ≡ Ok x) × Answers x n a))
+    answered (Err e) h = tt
+    answered (Ok a) h = by (with_end last at_end.heard) at_end.is (h n at_end.heard at_end.at)
+      where
+        by : (read : Result Answered (Fault AnswerKind)) → answer_of text n ≡ read → AnswersOk read n a → (x : Answered) × ((answer_of text n ≡ Ok x) × Answers x n a)
+        by (Err fault) e k = absurd k
+        by (Ok x) e k = (x, (e, k))
+
+    pub refused : {R : Type 0} (result : Result R (Refusal AnswerKind)) → IfErr result (λ refusal. (n : ℕ) (heard : Heard) → Hears n heard kept → Refuses (with_end last heard) refusal)
+        → IfErr result (λ refusal. Refuses (answer_of text n) refusal)
+    refused (Ok a) h = tt
+    refused (Err refusal) h = subst (λ read. Refuses read refusal) (sym at_end.is) (h n at_end.heard at_end.at)

@@ -1,8 +1,8 @@
 mod AnswerRows
 mod AnswerSteps
 mod LineSteps
-mod Numerals
-mod Shows
+mod ModelLaws
+mod Numbers
 mod StatusWords
 mod Steps
 mod TextSteps

@@ -1,7 +1,7 @@
 -- The status that words say, along the walk over a line.
 use Rattle.std.proofs.Common.{◌≡◌, refl, sym, ◌∙◌, ap, ℕ, Bool, List, [], ◌∷◌, Option, Some, None, IsSome}
 use Rattle.asp_scan.specs.Tokens.{token_at, tokens}
-use Rattle.back_map.specs.AnswerText.{status_of}
+use Rattle.back_map.specs.Read.{status_of}
 use Rattle.back_map.specs.declared.answer.Status.{Status}
 use Rattle.asp_scan.proofs.LineTokens.{tokens-some, tokens-none}
 

@@ -1,89 +1,69 @@
 -- What was heard, step by step, beside what the reader keeps.
-use Rattle.std.proofs.Common.{◌≡◌, ◌≢◌, refl, sym, ◌∙◌, ap, subst, ℕ, ℤ, pos, Bool, true, false, Some, Result, Ok, Err, OnOk, IfErr}
+use Rattle.std.proofs.Common.{◌≡◌, ◌≢◌, refl, sym, ◌∙◌, ap, subst, ℕ, ℤ, pos, false, Some, Result, Ok, Err, OnOk, IfErr}
 use Rattle.std.specs.Ordering.{int_eq}
-use Rattle.std.proofs.lemmas.Bool.{cond-false}
+use Rattle.std.proofs.lemmas.Bool.{cond-false, false_from_ne_true}
 use Rattle.std.proofs.lemmas.Bool.Decides.{Decides-int_eq}
-use Rattle.back_map.specs.AnswerText.{Heard, with_literal, with_number}
-use Rattle.back_map.specs.Reading.{Hears, HearsOk, Follows, Faults}
+use Rattle.asp_base.specs.Faults.{◌>>=◌}
+use Rattle.back_map.specs.Read.{Heard, with_literal, with_number}
 use Rattle.back_map.specs.declared.answer.AnswerKind.{AnswerKind}
-use Rattle.back_map.specs.declared.hearing.Hearing.{Hearing}
+use Rattle.back_map.specs.private.Kept.{Kept}
+use Rattle.back_map.specs.private.Reading.{Hears, HearsOk, Step, Follows, Faults}
 
-not_zero : (n : ℤ) → n ≢ pos 0 → int_eq n (pos 0) ≡ false
-not_zero n h = by (int_eq n (pos 0)) refl
-  where
-    by : (b : Bool) → int_eq n (pos 0) ≡ b → b ≡ false
-    by true e = absurd (h ((Decides-int_eq n (pos 0)).0 e))
-    by false e = refl
+-- ---- a step that is another step, where the reader is at such a place
 
--- a step that is this other step, where the reader is at such a place
-pub Follows-as : (vars : ℕ) (step other : Heard → Result Heard AnswerKind) (old new : Hearing) → ((heard : Heard) → Hears vars heard old → step heard ≡ other heard)
-    → Follows vars other old new → Follows vars step old new
-Follows-as vars step other old new same h = λ heard hears. subst (λ r. HearsOk vars r new) (sym (same heard hears)) (h heard hears)
+abbrev pub SameAt : {E : Type 0} → Step E → Step E → Kept → Type 0
+SameAt step other old = (n : ℕ) (heard : Heard) → Hears n heard old → step n heard ≡ other n heard
 
-pub Faults-as : (vars : ℕ) (step other : Heard → Result Heard AnswerKind) (old : Hearing) (kind : AnswerKind) → ((heard : Heard) → Hears vars heard old → step heard ≡ other heard)
-    → Faults vars other old kind → Faults vars step old kind
-Faults-as vars step other old kind same h = λ heard hears. same heard hears ∙ h heard hears
+pub ok-as : {A E : Type 0} (step other : Step E) (old new : Kept) (result : Result A E) → SameAt step other old → OnOk result (Follows other old new) → OnOk result (Follows step old new)
+ok-as step other old new (Ok a) same h = λ n heard hears. subst (λ r. HearsOk n r new) (sym (same n heard hears)) (h n heard hears)
+ok-as step other old new (Err kind) same h = tt
 
-pub ok-as : {A : Type 0} (vars : ℕ) (step other : Heard → Result Heard AnswerKind) (old new : Hearing) (result : Result A AnswerKind)
-    → ((heard : Heard) → Hears vars heard old → step heard ≡ other heard) → OnOk result (Follows vars other old new) → OnOk result (Follows vars step old new)
-ok-as vars step other old new (Ok a) same h = Follows-as vars step other old new same h
-ok-as vars step other old new (Err kind) same h = tt
-
-pub err-as : {A : Type 0} (vars : ℕ) (step other : Heard → Result Heard AnswerKind) (old : Hearing) (result : Result A AnswerKind)
-    → ((heard : Heard) → Hears vars heard old → step heard ≡ other heard) → IfErr result (λ kind. Faults vars other old kind) → IfErr result (λ kind. Faults vars step old kind)
-err-as vars step other old (Ok a) same h = tt
-err-as vars step other old (Err kind) same h = Faults-as vars step other old kind same h
+pub err-as : {A E : Type 0} (step other : Step E) (old : Kept) (result : Result A E) → SameAt step other old → IfErr result (λ kind. Faults other old kind) → IfErr result (λ kind. Faults step old kind)
+err-as step other old (Ok a) same h = tt
+err-as step other old (Err kind) same h = λ n heard hears. same n heard hears ∙ h n heard hears
 
 -- a number that is not 0, before the end, is a literal
-pub number-same : (vars : ℕ) (n m : ℤ) (old : Hearing) → m ≡ n → old.ended ≡ false → n ≢ pos 0 → (heard : Heard) → Hears vars heard old → with_number vars (Some n) heard ≡ with_literal vars m heard
-number-same vars n m old same more nonzero heard hears =
-    cond-false heard.ended _ _ (sym hears.ended ∙ more) ∙ cond-false (int_eq n (pos 0)) _ _ (not_zero n nonzero) ∙ ap (λ k. with_literal vars k heard) (sym same)
+pub number-same : (number same : ℤ) (old : Kept) → same ≡ number → old.ended ≡ false → number ≢ pos 0 → SameAt (λ n. with_number n (Some number)) (λ n. with_literal n same) old
+number-same number same old is more nonzero n heard hears =
+    cond-false heard.ended _ _ (sym hears.ended ∙ more)
+    ∙ cond-false (int_eq number (pos 0)) _ _ (false_from_ne_true _ (λ e. nonzero ((Decides-int_eq number (pos 0)).0 e)))
+    ∙ ap (λ z. with_literal n z heard) (sym is)
+
+-- ---- several steps
 
 -- what is left to hear, from some place that the reader keeps, is the whole
-abbrev pub Reaches : {E : Type 0} → ℕ → (Heard → Result Heard E) → (Heard → Result Heard E) → Hearing → Hearing → Type 0
-Reaches vars whole left old hearing = (heard : Heard) → Hears vars heard old → (now : Heard) × (Hears vars now hearing × (left now ≡ whole heard))
+abbrev pub Reaches : {E : Type 0} → Step E → Step E → Kept → Kept → Type 0
+Reaches whole left old now = (n : ℕ) (heard : Heard) → Hears n heard old → (at : Heard) × (Hears n at now × (left n at ≡ whole n heard))
 
-pub Reaches-start : {E : Type 0} (vars : ℕ) (whole : Heard → Result Heard E) (old : Hearing) → Reaches vars whole whole old old
-Reaches-start vars whole old = λ heard hears. (heard, (hears, refl))
+pub Reaches-start : {E : Type 0} (whole : Step E) (old : Kept) → Reaches whole whole old old
+Reaches-start whole old = λ n heard hears. (heard, (hears, refl))
 
-module _ {E : Type 0} (vars : ℕ) (whole left : Heard → Result Heard E) (step : Heard → Result Heard AnswerKind) (fault : AnswerKind → E) (old hearing : Hearing) (reached : Reaches vars whole left old hearing) where
-  pub Reaches-next : (after : Heard → Result Heard E) (new : Hearing) → ((h : Heard) → left h ≡ elim (step h) as (λ x. Result Heard E) [ Err kind ↦ Err (fault kind) | Ok more ↦ after more ])
-      → Follows vars step hearing new → Reaches vars whole after old new
-  Reaches-next after new is follows = λ heard hears.
-      let at = reached heard hears in by heard at.0 (step at.0) refl (follows at.0 at.1.0) at.1.1
-    where
-      by : (heard now : Heard) (r : Result Heard AnswerKind) → step now ≡ r → HearsOk vars r new → left now ≡ whole heard
-          → (next : Heard) × (Hears vars next new × (after next ≡ whole heard))
-      by heard now (Err kind) e h same = absurd h
-      by heard now (Ok more) e h same = (more, (h, sym (is now ∙ ap (λ r. elim r as (λ x. Result Heard E) [ Err kind ↦ Err (fault kind) | Ok more ↦ after more ]) e) ∙ same))
-
-  pub Reaches-fails : (after : Heard → Result Heard E) (kind : AnswerKind) → ((h : Heard) → left h ≡ elim (step h) as (λ x. Result Heard E) [ Err kind ↦ Err (fault kind) | Ok more ↦ after more ])
-      → Faults vars step hearing kind → Faults vars whole old (fault kind)
-  Reaches-fails after kind is faults = λ heard hears.
-      let at = reached heard hears in
-      sym at.1.1 ∙ is at.0 ∙ ap (λ r. elim r as (λ x. Result Heard E) [ Err kind ↦ Err (fault kind) | Ok more ↦ after more ]) (faults at.0 at.1.0)
-
-pub Reaches-done : {E : Type 0} (vars : ℕ) (whole left : Heard → Result Heard E) (old hearing : Hearing) → Reaches vars whole left old hearing → ((h : Heard) → left h ≡ Ok h)
-    → Follows vars whole old hearing
-Reaches-done vars whole left old hearing reached is = λ heard hears.
-    let at = reached heard hears in subst (λ r. HearsOk vars r hearing) (sym (is at.0) ∙ at.1.1) at.1.0
+pub Reaches-done : {E : Type 0} (whole left : Step E) (old now : Kept) → Reaches whole left old now → ((n : ℕ) (h : Heard) → left n h ≡ Ok h) → Follows whole old now
+Reaches-done whole left old now reached is = λ n heard hears.
+    let at = reached n heard hears in subst (λ r. HearsOk n r now) (sym (is n at.0) ∙ at.1.1) at.1.0
 
 -- the end of what is left is the end of the whole
-pub Reaches-ok : {A E : Type 0} (vars : ℕ) (whole left : Heard → Result Heard E) (old mid new : Hearing) (result : Result A E) → Reaches vars whole left old mid
-    → OnOk result (Follows vars left mid new) → OnOk result (Follows vars whole old new)
-Reaches-ok vars whole left old mid new (Ok a) reached h = λ heard hears. let at = reached heard hears in subst (λ r. HearsOk vars r new) at.1.1 (h at.0 at.1.0)
-Reaches-ok vars whole left old mid new (Err e) reached h = tt
+pub Reaches-ok : {A E : Type 0} (whole left : Step E) (old mid new : Kept) (result : Result A E) → Reaches whole left old mid → OnOk result (Follows left mid new) → OnOk result (Follows whole old new)
+Reaches-ok whole left old mid new (Ok a) reached h = λ n heard hears. let at = reached n heard hears in subst (λ r. HearsOk n r new) at.1.1 (h n at.0 at.1.0)
+Reaches-ok whole left old mid new (Err e) reached h = tt
 
-pub Reaches-err : {A E : Type 0} (vars : ℕ) (whole left : Heard → Result Heard E) (old mid : Hearing) (result : Result A E) → Reaches vars whole left old mid
-    → IfErr result (λ e. Faults vars left mid e) → IfErr result (λ e. Faults vars whole old e)
-Reaches-err vars whole left old mid (Ok a) reached h = tt
-Reaches-err vars whole left old mid (Err e) reached h = λ heard hears. let at = reached heard hears in sym at.1.1 ∙ h at.0 at.1.0
+pub Reaches-err : {A E : Type 0} (whole left : Step E) (old mid : Kept) (result : Result A E) → Reaches whole left old mid → IfErr result (λ e. Faults left mid e) → IfErr result (λ e. Faults whole old e)
+Reaches-err whole left old mid (Ok a) reached h = tt
+Reaches-err whole left old mid (Err e) reached h = λ n heard hears. let at = reached n heard hears in sym at.1.1 ∙ h n at.0 at.1.0
 
--- what holds for each number of variables, for this one
-pub ok-for : {A E : Type 0} (P : ℕ → Type 0) (n : ℕ) (result : Result A E) → OnOk result ((m : ℕ) → P m) → OnOk result (P n)
-ok-for P n (Ok a) h = h n
-ok-for P n (Err e) h = tt
+-- What is left is one more step and what is left then. The step's fault may get a line.
+module _ {E : Type 0} (lift : Result Heard AnswerKind → Result Heard E) (fault : AnswerKind → E) (ok : (h : Heard) → lift (Ok h) ≡ Ok h) (err : (kind : AnswerKind) → lift (Err kind) ≡ Err (fault kind))
+    (whole left after : Step E) (step : Step AnswerKind) (old now : Kept) (reached : Reaches whole left old now) (is : (n : ℕ) (h : Heard) → left n h ≡ (lift (step n h) >>= after n)) where
+  pub Reaches-next : (new : Kept) → Follows step now new → Reaches whole after old new
+  Reaches-next new follows = λ n heard hears.
+      let at = reached n heard hears in by n heard at.0 (step n at.0) refl (follows n at.0 at.1.0) at.1.1
+    where
+      by : (n : ℕ) (heard at : Heard) (r : Result Heard AnswerKind) → step n at ≡ r → HearsOk n r new → left n at ≡ whole n heard
+          → (next : Heard) × (Hears n next new × (after n next ≡ whole n heard))
+      by n heard at (Err kind) e h same = absurd h
+      by n heard at (Ok next) e h same = (next, (h, sym (is n at ∙ ap (λ r. lift r >>= after n) e ∙ ap (λ r. r >>= after n) (ok next)) ∙ same))
 
-pub err-for : {A E : Type 0} (P : ℕ → E → Type 0) (n : ℕ) (result : Result A E) → IfErr result (λ e. (m : ℕ) → P m e) → IfErr result (λ e. P n e)
-err-for P n (Ok a) h = tt
-err-for P n (Err e) h = h n
+  pub Reaches-fails : (kind : AnswerKind) → Faults step now kind → Faults whole old (fault kind)
+  Reaches-fails kind faults = λ n heard hears.
+      let at = reached n heard hears in
+      sym at.1.1 ∙ is n at.0 ∙ ap (λ r. lift r >>= after n) (faults n at.0 at.1.0) ∙ ap (λ r. r >>= after n) (err kind)

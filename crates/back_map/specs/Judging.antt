@@ -1,8 +1,8 @@
--- What an assignment shows of a program through a map, where it makes the formula's clauses true.
-use Rattle.std.specs.Prelude.{◌≡◌, ◌≢◌, ⊤, Some, None}
+-- What an assignment shows of a program through a map, where it is a model of the formula.
+use Rattle.std.specs.Prelude.{◌≡◌, ◌≢◌, ⊤, Some}
 use Rattle.asp_base.specs.Sets.{Set}
 use Rattle.clause_store.specs.Clauses.{Clauses}
-use Rattle.clause_store.specs.Models.{first_false}
+use Rattle.clause_store.specs.Models.{IsModel, first_false}
 use Rattle.symbol_map.specs.Symbols.{Symbols}
 use Rattle.symbol_map.specs.Restrict.{names, costs}
 use Rattle.back_map.specs.declared.judge.Judged.{Judged}
@@ -10,9 +10,11 @@ use Rattle.back_map.specs.declared.judge.Judged.TheVariants.{Accepted, FalseClau
 use Rattle.back_map.specs.declared.judge.BackRefusal.{BackRefusal}
 use Rattle.back_map.specs.declared.judge.BackRefusal.TheVariants.{Mismatch, Memory}
 
--- the judgement of an assignment: what it shows and costs, or the place of the first clause that it makes false
+-- the judgement of an assignment: what a model shows and costs, or the place of the first clause
+-- that the assignment makes false
 abbrev pub JudgedAs : Clauses → Symbols → Set → Judged → Type 0
-JudgedAs F m A (Accepted seen) = (first_false F.hard A ≡ None) × (seen.names ≡ names m A) × (seen.costs ≡ costs m A)
+JudgedAs F m A (Accepted seen) =
+    IsModel F A × (seen.names ≡ names m A) × (seen.costs ≡ costs m A)
 JudgedAs F m A (FalseClause n) = first_false F.hard A ≡ Some n
 
 -- why there is no judgement: the map is one of another number of variables, or memory ran out

@@ -1,3 +1,3 @@
-pub mod AnswerText
 pub mod Judging
-pub mod Reading
+pub mod Read
+pub mod private

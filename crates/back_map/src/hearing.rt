@@ -1,70 +1,130 @@
-ghost use Rattle.std.specs.Prelude.{◌≡◌, ◌≢◌, ◌+◌, ◌<◌, ◌^◌, pos, length, ℕ, IfErr, OnOk, Some};
-ghost use Rattle.back_map.specs.AnswerText.{with_literal, with_number, with_status};
-ghost use Rattle.back_map.specs.Reading.{Follows, Faults, other};
+//! What was read of an answer so far: a table with an entry for each variable, so that each literal is looked up in
+//! constant time.
 
-use crate::answer::{AnswerKind, Status};
+ghost use Rattle.std.specs.Prelude.{◌≡◌, ◌≢◌, ◌<◌, ◌^◌, pos, ℕ, IfOk, IfErr, OnOk, Some};
+ghost use Rattle.asp_base.specs.Faults.{Refuses};
+ghost use Rattle.back_map.specs.Read.{Heard, silence, with_literal, with_number, with_status, with_end};
+ghost use Rattle.back_map.specs.private.Reading.{Hears, Follows, Faults, AnswersOk, other};
+
+use crate::answer::{Answer, AnswerKind, AnswerRefusal, Status};
+use crate::true_variables::assignment;
+use asp_base::Memory;
+use std::alloc::Global;
+use std::marker::Model;
 
 /// What was read of an answer so far.
 #[derive(Drop)]
-pub struct Hearing {
-    pub status: Option<Status>,
+pub(crate) struct Hearing {
+    vars: u32,
+    status: Option<Status>,
     /// The status was the line `SAT`, whose literals have a line of their own.
-    pub bare: bool,
+    bare: bool,
     /// Of each variable, from 0, whether it was named, and as true or false.
-    pub values: Vec<Option<bool>>,
+    values: Vec<Option<bool>>,
     /// A 0 ended the literals.
-    pub ended: bool,
+    ended: bool,
 }
 
-/// The literal of a number that is not 0 is named.
-fn name_literal(hearing: &mut Hearing, vars: u32, n: i64) -> Result<(), AnswerKind>
-    requires len { length hearing.old.values.items ≡ vars + 1 }
-    requires nonzero { n ≢ pos 0 }
-    ensures ok { OnOk result (Follows vars (with_literal vars n) hearing.old hearing.new) }
-    ensures err { IfErr result (λ kind. Faults vars (with_literal vars n) hearing.old kind) }
-    ensures len { length hearing.new.values.items ≡ vars + 1 }
-{
-    let variable = n.unsigned_abs();
-    if variable > vars as u64 {
-        return Err(AnswerKind::LiteralOutOfRange);
-    }
-    let positive = n > 0;
-    if is_other(hearing.values[variable as usize], positive) {
-        return Err(AnswerKind::BothSigns);
-    }
-    hearing.values[variable as usize] = Some(positive);
-    Ok(())
+impl Model for Hearing {
+    ghost use Rattle.back_map.specs.private.InsideHearing.{kept_of};
+    ghost use Rattle.back_map.specs.private.Kept.{Kept, IsKept};
+
+    ghost Value = { Kept };
+
+    ghost view = { kept_of };
+
+    ghost invariant = { λ h. IsKept (kept_of h) };
 }
 
-/// A number among the literals.
-pub fn number(hearing: &mut Hearing, vars: u32, n: i64) -> Result<(), AnswerKind>
-    requires len { length hearing.old.values.items ≡ vars + 1 }
-    ensures ok { OnOk result (Follows vars (with_number vars (Some n)) hearing.old hearing.new) }
-    ensures err { IfErr result (λ kind. Faults vars (with_number vars (Some n)) hearing.old kind) }
-    ensures len { length hearing.new.values.items ≡ vars + 1 }
-{
-    if hearing.ended {
-        return Err(AnswerKind::BadLine);
+impl Hearing {
+    /// Before the first line of an answer over the variables 1 to `vars`.
+    pub(crate) fn new(alloc: Global, vars: u32) -> Result<Hearing, Memory>
+        requires { vars < 2 ^ 31 }
+        ensures { IfOk result (λ h. Hears vars silence h) }
+    {
+        Ok(Hearing {
+            vars,
+            status: None,
+            bare: false,
+            values: vec![in alloc; None; vars as usize + 1]?,
+            ended: false,
+        })
     }
-    if n == 0 {
-        hearing.ended = true;
-        return Ok(());
-    }
-    name_literal(hearing, vars, n)
-}
 
-/// A status, and whether it is one without `s`.
-pub fn hear_status(hearing: &mut Hearing, found: (Status, bool)) -> Result<(), AnswerKind>
-    ensures ok { OnOk result ((vars : ℕ) → Follows vars (with_status found) hearing.old hearing.new) }
-    ensures err { IfErr result (λ kind. (vars : ℕ) → Faults vars (with_status found) hearing.old kind) }
-    ensures len { length hearing.new.values.items ≡ length hearing.old.values.items }
-{
-    if hearing.status.is_some() {
-        return Err(AnswerKind::BadLine);
+    /// Whether the status was the line `SAT`.
+    pub(crate) fn is_bare(&self) -> bool
+        ensures { result ≡ self.now.bare }
+    {
+        self.bare
     }
-    hearing.status = Some(found.0);
-    hearing.bare = found.1;
-    Ok(())
+
+    /// A status, and whether it is one without `s`.
+    pub(crate) fn hear_status(&mut self, found: (Status, bool)) -> Result<(), AnswerKind>
+        ensures ok { OnOk result (Follows (λ n. with_status found) self.old self.new) }
+        ensures err { IfErr result (λ kind. Faults (λ n. with_status found) self.old kind) }
+    {
+        if self.status.is_some() {
+            return Err(AnswerKind::BadLine);
+        }
+        self.status = Some(found.0);
+        self.bare = found.1;
+        Ok(())
+    }
+
+    /// A number among the literals.
+    pub(crate) fn hear_number(&mut self, number: i64) -> Result<(), AnswerKind>
+        ensures ok { OnOk result (Follows (λ n. with_number n (Some number)) self.old self.new) }
+        ensures err { IfErr result (λ kind. Faults (λ n. with_number n (Some number)) self.old kind) }
+    {
+        if self.ended {
+            return Err(AnswerKind::BadLine);
+        }
+        if number == 0 {
+            self.ended = true;
+            return Ok(());
+        }
+        self.hear_literal(number)
+    }
+
+    /// The literal of a number that is not 0 is named.
+    fn hear_literal(&mut self, number: i64) -> Result<(), AnswerKind>
+        requires { number ≢ pos 0 }
+        ensures ok { OnOk result (Follows (λ n. with_literal n number) self.old self.new) }
+        ensures err { IfErr result (λ kind. Faults (λ n. with_literal n number) self.old kind) }
+    {
+        let variable = number.unsigned_abs();
+        if variable > u64::from(self.vars) {
+            return Err(AnswerKind::LiteralOutOfRange);
+        }
+        let positive = number > 0;
+        if is_other(self.values[variable as usize], positive) {
+            return Err(AnswerKind::BothSigns);
+        }
+        self.values[variable as usize] = Some(positive);
+        Ok(())
+    }
+
+    /// The answer at the end of the text, which is this line.
+    pub(crate) fn answer(&self, alloc: Global, last: u64) -> Result<Answer, AnswerRefusal>
+        ensures ok { IfOk result (λ a. (n : ℕ) (heard : Heard) → Hears n heard self.now
+            → AnswersOk (with_end last heard) n a) }
+        ensures err { IfErr result (λ refusal. (n : ℕ) (heard : Heard) → Hears n heard self.now
+            → Refuses (with_end last heard) refusal) }
+    {
+        match self.status {
+            None => Err(AnswerRefusal::At {
+                line: last,
+                kind: AnswerKind::NoStatus,
+            }),
+            Some(Status::Satisfied) => Ok(Answer::Values(assignment(
+                alloc,
+                self.vars,
+                self.values.as_slice(),
+            )?)),
+            Some(Status::Unsatisfiable) => Ok(Answer::NoModel),
+            Some(Status::Unknown) => Ok(Answer::Unknown),
+        }
+    }
 }
 
 /// Whether this is the other value.

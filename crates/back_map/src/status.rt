@@ -1,7 +1,8 @@
 //! The status that a line says, by its words.
+
 ghost use Rattle.std.specs.Prelude.{◌≡◌, [], ◌∷◌};
 ghost use Rattle.asp_scan.specs.Tokens.{tokens};
-ghost use Rattle.back_map.specs.AnswerText.{status_of};
+ghost use Rattle.back_map.specs.Read.{status_of};
 
 use crate::answer::Status;
 use asp_scan::Scan;
@@ -9,8 +10,9 @@ use asp_scan::Scan;
 /// An optimum is a model.
 const OPTIMUM: Status = Status::Satisfied;
 
-/// The status of a line with this first word, and whether it is one without `s`, whose literals follow on a line of their own.
-pub fn line_status(scan: &mut Scan<'_>, first: &[u8]) -> Option<(Status, bool)>
+/// The status of a line with this first word, and whether it is one without `s`, whose literals follow on a line of
+/// their own.
+pub(crate) fn line_status(scan: &mut Scan<'_>, first: &[u8]) -> Option<(Status, bool)>
     ensures status { result ≡ status_of (first.now ∷ tokens scan.old.left) }
     ensures rest { scan.new ≡ record scan.old { left = scan.new.left } }
 {

@@ -1,17 +1,22 @@
 //! The assignment that a table of named literals stands for.
+
 ghost use Rattle.std.specs.Prelude.{◌≡◌, ◌+◌, ◌<◌, ◌≤◌, ◌^◌, ℕ, None, get_or, length, IfOk};
 ghost use Rattle.std.specs.List.{AllByRecursion};
 ghost use Rattle.asp_base.specs.Literal.{Pos};
 ghost use Rattle.asp_base.specs.Sets.{members};
 ghost use Rattle.clause_store.specs.Assigned.{true_in};
-ghost use Rattle.back_map.specs.Reading.{agrees};
+ghost use Rattle.back_map.specs.private.Reading.{agrees};
 
 use asp_base::Memory;
 use clause_store::Assignment;
 use std::alloc::Global;
 
 /// The variables that were named as true have the value true, and others false.
-pub fn assignment(alloc: Global, vars: u32, values: &[Option<bool>]) -> Result<Assignment, Memory>
+pub(crate) fn assignment(
+    alloc: Global,
+    vars: u32,
+    values: &[Option<bool>],
+) -> Result<Assignment, Memory>
     requires vars { vars < 2 ^ 31 }
     requires len { length values.now ≡ vars + 1 }
     requires zero { get_or values.now 0 None ≡ None }

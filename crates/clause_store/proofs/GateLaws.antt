@@ -1,22 +1,21 @@
--- Truth of literals and clauses under assignments that agree, and conjunctions: each gives one value more to each assignment.
+-- Truth of literals and clauses under assignments that agree, and conjunctions: each gives one value
+-- more to each assignment.
 use Rattle.std.proofs.Common.{◌≡◌, refl, sym, ◌∙◌, ap, ap₂, subst, subst₂, ℕ, suc, ◌≤◌, ◌<◌, Bool, true, false, cond, not, ◌&&◌, ◌||◌, ◌==◌, List, [], ◌∷◌, ◌++◌, map, Option, Some, None, arith}
 use Rattle.std.specs.List.{list_all, AllByRecursion, flat_map}
 use Rattle.std.proofs.lemmas.Bool.{and_parts, and_from, true≢false, eqb-true, eq-eqb, ne_eqb, cond-true, cond-false}
 use Rattle.std.proofs.lemmas.List.Folds.{list_all-append}
 use Rattle.asp_base.specs.Literal.{Literal, Pos, Neg, negation, atom_of, same_literal}
 use Rattle.asp_base.specs.Sets.{Set}
-use Rattle.clause_store.specs.Inside.{IsOver}
-use Rattle.clause_store.specs.Models.{is_true, clause_true, clauses_true, IsAssignment}
+use Rattle.asp_base.proofs.Bools.{and_true}
+use Rattle.asp_base.proofs.Each.{each-weaker, each-append, each-map}
+use Rattle.asp_base.proofs.LiteralLaws.{equal_from_same, literal_holds-negation}
+use Rattle.clause_store.specs.Extension.{Agree, Extends, StandsForAll}
+use Rattle.clause_store.specs.Facts.{IsOver}
+use Rattle.clause_store.specs.Models.{is_true, all_true, clause_true, clauses_true, IsAssignment}
+use Rattle.clause_store.specs.private.Kept.{IsGate}
 use Rattle.clause_store.specs.Stored.{Stored, same_literals, find_known, gate_clauses, with_gate, gate_output, conjunction, after_conjunction}
 
 -- ---- truth
-
-abbrev pub all_true : List Literal → Set → Bool
-all_true lits A = list_all (λ l. is_true l A) lits
-
--- the same on the variables up to n
-abbrev pub Agree : ℕ → Set → Set → Type 0
-Agree n A B = (v : ℕ) → v ≤ n → A v ≡ B v
 
 pub is_true-agree : (n : ℕ) (A B : Set) → Agree n A B → (l : Literal) → IsOver n l → is_true l A ≡ is_true l B
 is_true-agree n A B h (Pos a) o = h a o.1
@@ -34,14 +33,6 @@ pub clauses_true-agree : (n : ℕ) (A B : Set) → Agree n A B → (cs : List (L
 clauses_true-agree n A B h [] o = refl
 clauses_true-agree n A B h (c ∷ cs) o = ap₂ ◌&&◌ (clause_true-agree n A B h c o.0) (clauses_true-agree n A B h cs o.1)
 
-not-not : (b : Bool) → b ≡ not (not b)
-not-not true = refl
-not-not false = refl
-
-pub is_true-negation : (l : Literal) (A : Set) → is_true (negation l) A ≡ not (is_true l A)
-is_true-negation (Pos a) A = refl
-is_true-negation (Neg a) A = not-not (A a)
-
 not_and : (x y : Bool) → (not x || not y) ≡ not (x && y)
 not_and true y = refl
 not_and false y = refl
@@ -49,7 +40,7 @@ not_and false y = refl
 -- a clause of negations is false just where all are true
 pub clause_true-negations : (lits : List Literal) (A : Set) → clause_true (map negation lits) A ≡ not (all_true lits A)
 clause_true-negations [] A = refl
-clause_true-negations (l ∷ lits) A = ap₂ ◌||◌ (is_true-negation l A) (clause_true-negations lits A) ∙ not_and (is_true l A) (all_true lits A)
+clause_true-negations (l ∷ lits) A = ap₂ ◌||◌ (literal_holds-negation l A) (clause_true-negations lits A) ∙ not_and (is_true l A) (all_true lits A)
 
 pub clauses_true-flat_map : {X : Type 0} (f : X → List (List Literal)) (xs : List X) (A : Set) → clauses_true (flat_map f xs) A ≡ list_all (λ x. clauses_true (f x) A) xs
 clauses_true-flat_map f [] A = refl
@@ -70,43 +61,25 @@ clauses_true-both cs ds A h k = list_all-append (λ c. clause_true c A) cs ds �
 pub IsOver-up : (m n : ℕ) → m ≤ n → (l : Literal) → IsOver m l → IsOver n l
 IsOver-up m n h l o = (o.0, let k : atom_of l ≤ m = o.1 in omega arith)
 
-pub each-more : {X : Type 0} (P Q : X → Type 0) (f : (x : X) → P x → Q x) (xs : List X) → AllByRecursion P xs → AllByRecursion Q xs
-each-more P Q f [] h = tt
-each-more P Q f (x ∷ xs) h = (f x h.0, each-more P Q f xs h.1)
-
-pub each-append : {X : Type 0} (P : X → Type 0) (xs ys : List X) → AllByRecursion P xs → AllByRecursion P ys → AllByRecursion P (xs ++ ys)
-each-append P [] ys h k = k
-each-append P (x ∷ xs) ys h k = (h.0, each-append P xs ys h.1 k)
-
-pub each-mapped : {X Y : Type 0} (P : Y → Type 0) (f : X → Y) (xs : List X) → AllByRecursion (λ x. P (f x)) xs → AllByRecursion P (map f xs)
-each-mapped P f [] h = tt
-each-mapped P f (x ∷ xs) h = (h.0, each-mapped P f xs h.1)
-
 pub literals-up : (m n : ℕ) → m ≤ n → (lits : List Literal) → AllByRecursion (IsOver m) lits → AllByRecursion (IsOver n) lits
-literals-up m n h lits o = each-more _ _ (IsOver-up m n h) lits o
+literals-up m n h lits o = each-weaker _ _ (IsOver-up m n h) lits o
 
 pub clauses-up : (m n : ℕ) → m ≤ n → (cs : List (List Literal)) → AllByRecursion (AllByRecursion (IsOver m)) cs → AllByRecursion (AllByRecursion (IsOver n)) cs
-clauses-up m n h cs o = each-more _ _ (literals-up m n h) cs o
+clauses-up m n h cs o = each-weaker _ _ (literals-up m n h) cs o
 
 pub negation-over : (l : Literal) (n : ℕ) → IsOver n l → IsOver n (negation l)
 negation-over (Pos a) n h = h
 negation-over (Neg a) n h = h
 
 pub negations-over : (lits : List Literal) (n : ℕ) → AllByRecursion (IsOver n) lits → AllByRecursion (IsOver n) (map negation lits)
-negations-over lits n h = each-mapped _ negation lits (each-more _ _ (λ l o. negation-over l n o) lits h)
+negations-over lits n h = each-map _ negation lits (each-weaker _ _ (λ l o. negation-over l n o) lits h)
 
 -- ---- equal lists of literals
-
-pub same_literal-true : (k l : Literal) → same_literal k l ≡ true → k ≡ l
-same_literal-true (Pos a) (Pos b) e = ap Pos (eqb-true a b e)
-same_literal-true (Neg a) (Neg b) e = ap Neg (eqb-true a b e)
-same_literal-true (Pos a) (Neg b) e = absurd (true≢false (sym e))
-same_literal-true (Neg a) (Pos b) e = absurd (true≢false (sym e))
 
 pub same_literals-true : (xs ys : List Literal) → same_literals xs ys ≡ true → xs ≡ ys
 same_literals-true [] [] e = refl
 same_literals-true (x ∷ xs) (y ∷ ys) e =
-    let k : (same_literal x y ≡ true) × (same_literals xs ys ≡ true) = and_parts _ _ e in ap₂ ◌∷◌ (same_literal-true x y k.0) (same_literals-true xs ys k.1)
+    let k : (same_literal x y ≡ true) × (same_literals xs ys ≡ true) = and_parts _ _ e in ap₂ ◌∷◌ (equal_from_same x y k.0) (same_literals-true xs ys k.1)
 same_literals-true [] (y ∷ ys) e = absurd (true≢false (sym e))
 same_literals-true (x ∷ xs) [] e = absurd (true≢false (sym e))
 
@@ -142,10 +115,6 @@ pairs_say g [] A = at_least (A g)
 pairs_say g (l ∷ inputs) A =
     ap (λ b. (not (A g) || (is_true l A || false)) && b) (pairs_say g inputs A) ∙ spread (A g) (is_true l A) (all_true inputs A)
 
-and_true : (b : Bool) → (b && true) ≡ b
-and_true true = refl
-and_true false = refl
-
 pub gate_clauses-say : (g : ℕ) (inputs : List Literal) (A : Set) → clauses_true (gate_clauses g inputs) A ≡ agree (A g) (all_true inputs A)
 gate_clauses-say g inputs A =
     list_all-append (λ c. clause_true c A) (map (λ l. Neg g ∷ l ∷ []) inputs) ((Pos g ∷ map negation inputs) ∷ [])
@@ -157,25 +126,10 @@ unit_says false = refl
 
 -- ---- extensions
 
--- the variable of a conjunction is true just where all its literals are, wherever the clauses are true
-pub record IsGate (vars : ℕ) (hard : List (List Literal)) (gate : List Literal × ℕ) : Type 0 where
-  pub output : (0 < gate.1) × (gate.1 ≤ vars)
-  pub says : (A : Set) → clauses_true hard A ≡ true → A gate.1 ≡ all_true gate.0 A
-
 -- the clauses are over the store's variables, and the known conjunctions have their meaning
 pub record IsSound (s : Stored) : Type 0 where
   pub over : AllByRecursion (AllByRecursion (IsOver s.vars)) s.hard
   pub known : AllByRecursion (IsGate s.vars s.hard) s.known
-
--- each assignment that the earlier clauses take has just one extension to the later variables that the later clauses take
-pub record Extends (before after : Stored) : Type 0 where
-  pub vars : before.vars ≤ after.vars
-  pub edges : after.edges ≡ before.edges
-  pub soft : after.soft ≡ before.soft
-  pub keeps : (A : Set) → clauses_true after.hard A ≡ true → clauses_true before.hard A ≡ true
-  pub some : (A : Set) → IsAssignment before.vars A → clauses_true before.hard A ≡ true
-      → (B : Set) × IsAssignment after.vars B × (clauses_true after.hard B ≡ true) × Agree before.vars A B
-  pub one : (A B : Set) → clauses_true after.hard A ≡ true → clauses_true after.hard B ≡ true → Agree before.vars A B → Agree after.vars A B
 
 pub Extends-same : (s : Stored) → Extends s s
 Extends-same s = record { vars = omega arith; edges = refl; soft = refl; keeps = λ A t. t; some = λ A a t. (A, a, t, λ v h. refl); one = λ A B t u e. e }
@@ -245,7 +199,7 @@ Extends-variable s cs known value over same says =
 
 -- what conjunctions mean stays so with more variables and clauses
 pub known-more : (m n : ℕ) (cs ds : List (List Literal)) (known : List (List Literal × ℕ)) → m ≤ n → AllByRecursion (IsGate m cs) known → AllByRecursion (IsGate n (cs ++ ds)) known
-known-more m n cs ds known h o = each-more _ _ (λ gate g. record {
+known-more m n cs ds known h o = each-weaker _ _ (λ gate g. record {
   output = (g.output.0, let k : gate.1 ≤ m = g.output.1 in omega arith);
   says = λ A t. g.says A (clauses_true-front cs ds A t);
 }) known o
@@ -261,18 +215,16 @@ gate_clauses-over n inputs h =
     let more : AllByRecursion (IsOver (suc n)) inputs = literals-up n (suc n) (omega arith) inputs h in
     let here : IsOver (suc n) (Neg (suc n)) = (omega arith, omega arith) in
     each-append _ (map (λ l. Neg (suc n) ∷ l ∷ []) inputs) ((Pos (suc n) ∷ map negation inputs) ∷ [])
-    (each-mapped _ (λ l. Neg (suc n) ∷ l ∷ []) inputs (each-more (IsOver (suc n)) (λ l. AllByRecursion (IsOver (suc n)) (Neg (suc n) ∷ l ∷ [])) (λ l o. (here, (o, tt))) inputs more))
+    (each-map _ (λ l. Neg (suc n) ∷ l ∷ []) inputs (each-weaker (IsOver (suc n)) (λ l. AllByRecursion (IsOver (suc n)) (Neg (suc n) ∷ l ∷ [])) (λ l o. (here, (o, tt))) inputs more))
     ((here, negations-over inputs (suc n) more), tt)
 
 -- the literal stands for the conjunction of the inputs in the later store
 pub record Conjunction (inputs : List Literal) (before after : Stored) (l : Literal) : Type 0 where
   pub sound : IsSound after
-  pub extends : Extends before after
-  pub over : IsOver after.vars l
-  pub says : (A : Set) → clauses_true after.hard A ≡ true → is_true l A ≡ all_true inputs A
+  pub stands : StandsForAll inputs before after l
 
 -- the conjunction that is found is the one that is looked for
-find_known-found : (vars : ℕ) (hard : List (List Literal)) (inputs : List Literal) (gates : List (List Literal × ℕ)) (g : ℕ) → AllByRecursion (IsGate vars hard) gates
+pub find_known-found : (vars : ℕ) (hard : List (List Literal)) (inputs : List Literal) (gates : List (List Literal × ℕ)) (g : ℕ) → AllByRecursion (IsGate vars hard) gates
     → find_known inputs gates ≡ Some g → IsGate vars hard (inputs, g)
 find_known-found vars hard inputs [] g o e = absurd (cc)
 find_known-found vars hard inputs (gate ∷ gates) g o e = go (same_literals gate.0 inputs) refl e (λ t. find_known-found vars hard inputs gates g o.1 t)
@@ -285,47 +237,45 @@ find_known-found vars hard inputs (gate ∷ gates) g o e = go (same_literals gat
         subst₂ (λ x y. IsGate vars hard (x, y)) k j o.0
     go false s t rest = rest t
 
-by_gate : (s : Stored) (inputs : List Literal) → AllByRecursion (IsOver s.vars) inputs → IsSound s
+-- one more variable, by whose clauses it is true just where all inputs are
+by_clauses : (s : Stored) (inputs : List Literal) (cs : List (List Literal)) (known : List (List Literal × ℕ)) → AllByRecursion (IsOver s.vars) inputs → IsSound s
+    → AllByRecursion (AllByRecursion (IsOver (suc s.vars))) cs → ((A : Set) → clauses_true cs A ≡ agree (A (suc s.vars)) (all_true inputs A))
+    → (IsGate (suc s.vars) (s.hard ++ cs) (inputs, suc s.vars) → AllByRecursion (IsGate (suc s.vars) (s.hard ++ cs)) known)
+    → Conjunction inputs s (record { vars = suc s.vars; hard = s.hard ++ cs; edges = s.edges; soft = s.soft; known = known }) (Pos (suc s.vars))
+by_clauses s inputs cs known h x over says gates =
+    let here : IsGate (suc s.vars) (s.hard ++ cs) (inputs, suc s.vars) = record {
+      output = (omega arith, omega arith);
+      says = λ A t. agree-same _ _ (sym (says A) ∙ clauses_true-back s.hard cs A t);
+    } in
+    record {
+      sound = record { over = each-append _ s.hard cs (clauses-up s.vars (suc s.vars) (omega arith) s.hard x.over) over; known = gates here };
+      stands = record {
+        extends = Extends-variable s cs known (all_true inputs) x.over (λ A B agrees. all_true-agree s.vars A B agrees inputs h) says;
+        over = here.output;
+        literal = here.says;
+      };
+    }
+
+pub new_gate : (s : Stored) (inputs : List Literal) → AllByRecursion (IsOver s.vars) inputs → IsSound s → Conjunction inputs s (with_gate inputs s None) (Pos (suc s.vars))
+new_gate s inputs h x =
+    let g : ℕ = suc s.vars in
+    let cs : List (List Literal) = gate_clauses g inputs in
+    by_clauses s inputs cs (s.known ++ ((inputs, g) ∷ [])) h x (gate_clauses-over s.vars inputs h) (gate_clauses-say g inputs)
+    (λ here. each-append _ s.known ((inputs, g) ∷ []) (known-more s.vars g s.hard cs s.known (omega arith) x.known) (here, tt))
+
+pub by_gate : (s : Stored) (inputs : List Literal) → AllByRecursion (IsOver s.vars) inputs → IsSound s
     → (found : Option ℕ) → find_known inputs s.known ≡ found → Conjunction inputs s (with_gate inputs s found) (Pos (gate_output s found))
 by_gate s inputs h x (Some g) e =
     let o : IsGate s.vars s.hard (inputs, g) = find_known-found s.vars s.hard inputs s.known g x.known e in
-    record { sound = x; extends = Extends-same s; over = o.output; says = λ A t. o.says A t }
-by_gate s inputs h x None e =
-    let g : ℕ = suc s.vars in
-    let cs : List (List Literal) = gate_clauses g inputs in
-    let says : (A : Set) → clauses_true (s.hard ++ cs) A ≡ true → A g ≡ all_true inputs A =
-    λ A t. agree-same _ _ (sym (gate_clauses-say g inputs A) ∙ clauses_true-back s.hard cs A t) in
-    let here : (0 < g) × (g ≤ g) = (omega arith, omega arith) in
-    record {
-      sound = record {
-        over = each-append _ s.hard cs (clauses-up s.vars g (omega arith) s.hard x.over) (gate_clauses-over s.vars inputs h);
-        known = each-append _ s.known ((inputs, g) ∷ []) (known-more s.vars g s.hard cs s.known (omega arith) x.known) (record { output = here; says = says }, tt);
-      };
-      extends = Extends-variable s cs (s.known ++ ((inputs, g) ∷ [])) (all_true inputs) x.over (λ A B agrees. all_true-agree s.vars A B agrees inputs h) (gate_clauses-say g inputs);
-      over = here;
-      says = says;
-    }
+    record { sound = x; stands = record { extends = Extends-same s; over = o.output; literal = λ A t. o.says A t } }
+by_gate s inputs h x None e = new_gate s inputs h x
 
 of_none : (s : Stored) → IsSound s → Conjunction [] s (after_conjunction [] s) (conjunction [] s)
 of_none s x =
-    let g : ℕ = suc s.vars in
-    let cs : List (List Literal) = (Pos g ∷ []) ∷ [] in
-    let here : (0 < g) × (g ≤ g) = (omega arith, omega arith) in
-    record {
-      sound = record {
-        over = each-append _ s.hard cs (clauses-up s.vars g (omega arith) s.hard x.over) ((here, tt), tt);
-        known = known-more s.vars g s.hard cs s.known (omega arith) x.known;
-      };
-      extends = Extends-variable s cs s.known (λ A. true) x.over (λ A B agrees. refl) (λ A. unit_says (A g));
-      over = here;
-      says = λ A t. agree-same _ _ (sym (unit_says (A g)) ∙ clauses_true-back s.hard cs A t);
-    }
-
-single : (b : Bool) → b ≡ (b && true)
-single true = refl
-single false = refl
+    by_clauses s [] ((Pos (suc s.vars) ∷ []) ∷ []) s.known tt x (((omega arith, omega arith), tt), tt) (λ A. unit_says (A (suc s.vars)))
+    (λ here. known-more s.vars (suc s.vars) s.hard ((Pos (suc s.vars) ∷ []) ∷ []) s.known (omega arith) x.known)
 
 pub conjunction-is : (s : Stored) (inputs : List Literal) → AllByRecursion (IsOver s.vars) inputs → IsSound s → Conjunction inputs s (after_conjunction inputs s) (conjunction inputs s)
 conjunction-is s [] h x = of_none s x
-conjunction-is s (l ∷ []) h x = record { sound = x; extends = Extends-same s; over = h.0; says = λ A t. single (is_true l A) }
+conjunction-is s (l ∷ []) h x = record { sound = x; stands = record { extends = Extends-same s; over = h.0; literal = λ A t. sym (and_true (is_true l A)) } }
 conjunction-is s (l ∷ k ∷ lits) h x = by_gate s (l ∷ k ∷ lits) h x (find_known (l ∷ k ∷ lits) s.known) refl

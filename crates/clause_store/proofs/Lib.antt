@@ -1,6 +1,5 @@
 mod Cuts
-pub mod Each
-mod Keys
-pub mod StoreLaws
-mod Values
 pub mod GateLaws
+mod Keys
+mod StoreLaws
+mod Values

@@ -1,7 +1,7 @@
 pub mod Assigned
 pub mod Clauses
-pub mod Cut
-pub mod Inside
+pub mod Extension
+pub mod Facts
 pub mod Models
-pub mod StoreInside
 pub mod Stored
+pub mod private

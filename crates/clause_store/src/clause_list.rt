@@ -1,38 +1,14 @@
-ghost use Rattle.std.specs.Prelude.{◌≡◌, ◌<◌, ◌≤◌, ◌+◌, ℕ, List, [], ◌∷◌, ◌++◌, length, take, drop, slice_get, slice_range, slice_index_or, Some, OnOk, OnErr};
-ghost use Rattle.clause_store.specs.Cut.{start_at, AreEnds};
+//! Clauses, and lists of them.
 
-use asp_base::{Lit, Memory};
+ghost use Rattle.std.specs.Prelude.{◌≡◌, ◌<◌, ◌≤◌, ◌+◌, ℕ, List, [], ◌∷◌, ◌++◌, length, take, drop, slice_get, slice_range, slice_index_or, Some, OnOk, OnErr};
+ghost use Rattle.clause_store.specs.private.Cut.{start_at, AreEnds};
+
+use asp_base::{Lit, Memory, VecList};
 use std::alloc::Global;
 use std::marker::Model;
 
 /// Literals, one of which is to be true.
-#[derive(Drop)]
-pub struct Clause {
-    lits: Vec<Lit>,
-}
-
-impl Model for Clause {
-    ghost use Rattle.std.specs.Prelude.{List};
-    ghost use Rattle.asp_base.specs.Literal.{Literal};
-
-    ghost Value = { List Literal };
-
-    ghost view = { λ c. c.lits.items };
-}
-
-impl Clause {
-    pub fn from_vec(lits: Vec<Lit>) -> Clause
-        ensures { result ≡ lits.items }
-    {
-        Clause { lits }
-    }
-
-    pub fn as_slice(&self) -> &[Lit]
-        ensures { result.now ≡ self.now }
-    {
-        self.lits.as_slice()
-    }
-}
+pub type Clause = VecList<Lit>;
 
 /// Clauses. Their literals stand behind one another in one list, since a formula may have millions of short clauses.
 #[derive(Drop)]
@@ -44,7 +20,7 @@ pub struct ClauseList {
 impl Model for ClauseList {
     ghost use Rattle.std.specs.Prelude.{List, length};
     ghost use Rattle.asp_base.specs.Literal.{Literal};
-    ghost use Rattle.clause_store.specs.Cut.{cut_from, AreEnds};
+    ghost use Rattle.clause_store.specs.private.Cut.{cut_from, AreEnds};
 
     ghost Value = { List (List Literal) };
 

@@ -1,4 +1,5 @@
-//! Formulas: hard and soft clauses, and edges under literals.
+//! Formulas: hard and soft clauses, and edges under literals, the assignments of their variables, and a store
+//! in which a formula grows.
 #![tactic(auto)]
 
 mod assignment;
@@ -7,8 +8,6 @@ mod conjunction;
 mod formula;
 mod known;
 mod store;
-#[cfg(test)]
-mod tests;
 
 pub use assignment::Assignment;
 pub use clause_list::{Clause, ClauseList};

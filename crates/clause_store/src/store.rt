@@ -1,7 +1,10 @@
+//! A store in which a formula grows: variables, clauses, and conjunctions with a variable of their own.
+
 ghost use Rattle.std.specs.Prelude.{◌≡◌, ◌<◌, ◌-◌, ◌^◌, ℕ, suc, List, [], None, IfOk, OnOk, OnErr};
 ghost use Rattle.std.specs.List.{AllByRecursion};
 ghost use Rattle.asp_base.specs.Literal.{Pos};
-ghost use Rattle.clause_store.specs.Inside.{IsOver, IsStore};
+ghost use Rattle.clause_store.specs.Facts.{IsOver};
+ghost use Rattle.clause_store.specs.Extension.{StandsForAll};
 ghost use Rattle.clause_store.specs.Stored.{inputs_only, with_variable, with_clause, conjunction, after_conjunction, formula_of_store, find_known, gate_output, with_gate};
 
 use crate::clause_list::ClauseList;
@@ -25,11 +28,11 @@ pub struct Store {
 
 impl Model for Store {
     ghost use Rattle.clause_store.specs.Stored.{Stored};
-    ghost use Rattle.clause_store.specs.Inside.{IsStore};
+    ghost use Rattle.clause_store.specs.private.Kept.{IsStore};
 
     ghost Value = { Stored };
 
-    ghost use Rattle.clause_store.specs.StoreInside.{stored_of};
+    ghost use Rattle.clause_store.specs.private.InsideStore.{stored_of};
 
     ghost view = { stored_of };
 
@@ -50,13 +53,6 @@ impl Store {
             soft: SoftList::new(alloc),
             known: Known::new(alloc),
         }
-    }
-
-    /// What every store is known to keep.
-    pub fn known(&self)
-        ensures { IsStore self.now }
-    {
-        let _ = &self.vars;
     }
 
     /// The number of variables.
@@ -91,6 +87,7 @@ impl Store {
     pub fn all_of(&mut self, lits: &[Lit]) -> Result<Lit, Memory>
         requires over { AllByRecursion (IsOver self.old.vars) lits.now }
         requires room { self.old.vars < 2 ^ 31 - 1 }
+        ensures gate { IfOk result (λ l. StandsForAll lits.now self.old self.new l) }
         ensures literal { IfOk result (λ l. l ≡ conjunction lits.now self.old) }
         ensures ok { OnOk result (self.new ≡ after_conjunction lits.now self.old) }
         ensures err { OnErr result (self.new ≡ self.old) }
@@ -105,6 +102,7 @@ impl Store {
     /// A new variable with a unit clause.
     fn always(&mut self) -> Result<Lit, Memory>
         requires { self.old.vars < 2 ^ 31 - 1 }
+        ensures gate { IfOk result (λ l. StandsForAll [] self.old self.new l) }
         ensures literal { IfOk result (λ l. l ≡ conjunction [] self.old) }
         ensures ok { OnOk result (self.new ≡ after_conjunction [] self.old) }
         ensures err { OnErr result (self.new ≡ self.old) }
@@ -119,6 +117,7 @@ impl Store {
     fn conjunction(&mut self, lits: &[Lit]) -> Result<Lit, Memory>
         requires over { AllByRecursion (IsOver self.old.vars) lits.now }
         requires room { self.old.vars < 2 ^ 31 - 1 }
+        ensures gate { IfOk result (λ l. StandsForAll lits.now self.old self.new l) }
         ensures literal { IfOk result (λ l. l ≡ Pos (gate_output self.old (find_known lits.now self.old.known))) }
         ensures ok { OnOk result (self.new ≡ with_gate lits.now self.old (find_known lits.now self.old.known)) }
         ensures err { OnErr result (self.new ≡ self.old) }
@@ -133,6 +132,7 @@ impl Store {
         requires over { AllByRecursion (IsOver self.old.vars) lits.now }
         requires room { self.old.vars < 2 ^ 31 - 1 }
         requires unknown { find_known lits.now self.old.known ≡ None }
+        ensures gate { IfOk result (λ l. StandsForAll lits.now self.old self.new l) }
         ensures literal { IfOk result (λ l. l ≡ Pos (suc self.old.vars)) }
         ensures ok { OnOk result (self.new ≡ with_gate lits.now self.old None) }
         ensures err { OnErr result (self.new ≡ self.old) }

@@ -3,26 +3,32 @@ use Rattle.std.proofs.Common.{◌≡◌, refl, sym, ◌∙◌, ap, ap₂, subst,
 use Rattle.std.specs.List.{list_any, list_all, AllByRecursion, flat_map}
 use Rattle.std.proofs.lemmas.Bool.{and_parts, and_from, or_cases, or_left, or_right, true≢false, not-true, not_from_false, cases_Bool}
 use mathlib.Core.Path.{fun_ext}
+use Rattle.completion.proofs.BodyLaws.{IsOverIfAny}
+use Rattle.asp_base.proofs.Bools.{or_true, or_false, or_again, and_true}
+use Rattle.asp_base.proofs.Each.{list_all-each}
 use Rattle.asp_base.specs.Literal.{Literal, Pos, negation, same_literal, all_hold}
 use Rattle.asp_base.specs.Sets.{Set, members, Same}
 use Rattle.asp_base.specs.Walks.{Acyclic}
 use Rattle.ground_program.specs.Ground.{Ground}
-use Rattle.ground_program.specs.Occurrences.{place}
+use Rattle.rising_numbers.specs.Rising.{place}
 use Rattle.ground_program.specs.Facts.{IsProgram, Among, BodyFits, RuleFits}
 use Rattle.ground_program.specs.Stable.{holds, head_has, step, is_headless, Supported}
 use Rattle.ground_program.proofs.FactLaws.{step-among}
 use Rattle.ground_program.proofs.Plain.{at_member}
-use Rattle.ground_program.proofs.PlaceLaws.{place-within, place-outside}
+use Rattle.rising_numbers.proofs.PlaceLaws.{place-within, place-outside}
 use Rattle.ground_program.specs.declared.program.Head.{Head}
 use Rattle.ground_program.specs.declared.program.Head.TheVariants.{Nothing, One, Choice}
 use Rattle.ground_program.specs.declared.program.Body.{Body}
 use Rattle.ground_program.specs.declared.program.Body.TheVariants.{All, Sum}
 use Rattle.ground_program.specs.declared.program.Rule.{Rule}
-use Rattle.clause_store.specs.Inside.{IsOver}
-use Rattle.clause_store.specs.Models.{is_true, clause_true, clauses_true, IsAssignment, IsModel, linked}
+use Rattle.asp_base.proofs.LiteralLaws.{equal_from_same, literal_holds-negation}
+use Rattle.clause_store.specs.Extension.{Agree, Extends}
+use Rattle.clause_store.specs.Facts.{IsOver}
+use Rattle.clause_store.specs.Models.{is_true, all_true, clause_true, clauses_true, IsAssignment, IsModel, linked}
 use Rattle.clause_store.specs.Stored.{Stored, inputs_only, conjunction, after_conjunction}
-use Rattle.clause_store.proofs.GateLaws.{all_true, Agree, agree, agree-same, same-agree, same_literal-true, clauses_true-flat_map, clause_true-negations, is_true-negation, clauses_true-front, clauses_true-back, clauses_true-both, literals-up, IsOver-up, IsSound, Extends, Extends-same, Extends-compose, Conjunction, conjunction-is}
-use Rattle.completion.specs.Completion.{over_variables, atoms_at, literals_of, inputs_of, body_literal, after_body, after_head, head_literal, after_rules, literals_of_rules, Support, with_support, supports_of, is_empty, is_sure, literal_if, bodies_of, each_once, defined_by, atom_clauses, headless_clause, headless_clauses, required_clauses, atoms_only, with_bodies, body_literals, support_clauses, completed, completion}
+use Rattle.clause_store.proofs.GateLaws.{agree, agree-same, same-agree, clauses_true-flat_map, clause_true-negations, clauses_true-front, clauses_true-back, clauses_true-both, literals-up, IsOver-up, IsSound, Extends-same, Extends-compose, Conjunction, conjunction-is}
+use Rattle.completion.specs.Completion.{atoms_at, literals_of, inputs_of, body_literal, after_body, after_head, head_literal, after_rules, literals_of_rules, Support, with_support, supports_of, is_empty, is_sure, literal_if, bodies_of, each_once, defined_by, atom_clauses, headless_clause, headless_clauses, required_clauses, atoms_only, with_bodies, body_literals, support_clauses, completed, completion}
+use Rattle.ground_program.specs.Occurrences.{over_variables}
 use Rattle.completion.specs.Normal.{IsNormalHead, IsNormalBody, AreNormal, HasSupported}
 use Rattle.completion.specs.Supported.{DeterminedByAtoms, ExtendsOnce, HasBodyLiterals, SaysSupported}
 use Rattle.completion.proofs.Places.{place-onto, inputs_from, inputs_from-over, inputs_from-place, all-over, is_true-over, all_true-over}
@@ -42,21 +48,17 @@ abbrev pub body_true : Option Literal → Set → Bool
 body_true None A = true
 body_true (Some l) A = is_true l A
 
-abbrev pub BodyOver : ℕ → Option Literal → Type 0
-BodyOver n None = Unit {0}
-BodyOver n (Some l) = IsOver n l
-
 -- the literal of a body, where it has one, stands for the conjunction
 pub record BodySays (inputs : List Literal) (before after : Stored) (body : Option Literal) : Type 0 where
   pub done : Done before after
-  pub over : BodyOver after.vars body
+  pub over : IsOverIfAny after.vars body
   pub says : (A : Set) → clauses_true after.hard A ≡ true → body_true body A ≡ all_true inputs A
 
 pub after_body-says : (inputs : List Literal) (s : Stored) → AllByRecursion (IsOver s.vars) inputs → IsSound s → BodySays inputs s (after_body inputs s) (body_literal inputs s)
 after_body-says [] s h x = record { done = Done-same s x; over = tt; says = λ A t. refl }
 after_body-says (l ∷ lits) s h x =
     let k : Conjunction (l ∷ lits) s (after_conjunction (l ∷ lits) s) (conjunction (l ∷ lits) s) = conjunction-is s (l ∷ lits) h x in
-    record { done = record { sound = k.sound; extends = k.extends }; over = k.over; says = λ A t. k.says A t }
+    record { done = record { sound = k.sound; extends = k.stands.extends }; over = k.stands.over; says = λ A t. k.stands.literal A t }
 
 inputs-over : (atoms : List ℕ) (body : Body) → BodyFits (Among atoms) body → AllByRecursion (IsOver (length atoms)) (map (over_variables atoms) (literals_of body))
 inputs-over atoms (All lits) h = all-over atoms lits h.1
@@ -148,12 +150,12 @@ literals-say atoms (rule ∷ rules) s f r zero a k lits e =
         let next : Stored = after_conjunction inputs s in
         let here : Conjunction inputs s next (conjunction inputs s) = conjunction-is s inputs (inputs-up atoms s r.up (record { head = One a; body = All (k ∷ lits) }) g) r.sound in
         let low : length atoms ≤ s.vars = r.up in
-        let high : s.vars ≤ next.vars = here.extends.vars in
+        let high : s.vars ≤ next.vars = here.stands.extends.vars in
         let rest : Done next (after_rules atoms rules next) = after_rules-done atoms rules next f.1 (record { sound = here.sound; up = omega arith }) in (
           conjunction inputs s,
           refl,
-          IsOver-up next.vars (after_rules atoms rules next).vars rest.extends.vars (conjunction inputs s) here.over,
-          λ A t. here.says A (rest.extends.keeps A t) ∙ all_true-over atoms (k ∷ lits) A,
+          IsOver-up next.vars (after_rules atoms rules next).vars rest.extends.vars (conjunction inputs s) here.stands.over,
+          λ A t. here.stands.literal A (rest.extends.keeps A t) ∙ all_true-over atoms (k ∷ lits) A,
         )
 literals-say atoms (rule ∷ rules) s f r (suc i) a k lits e =
     literals-say atoms rules (after_head rule.head (inputs_of atoms rule) s) f.1 ((Ready-next atoms rule s f.0 r).1) i a k lits e
@@ -168,27 +170,19 @@ spread_or true y z = refl
 spread_or false true z = refl
 spread_or false false z = refl
 
-or_true : (x : Bool) → true ≡ (x || true)
-or_true true = refl
-or_true false = refl
-
 each_says : (v : ℕ) (bodies : List Literal) (A : Set) → clauses_true (map (λ b. Pos v ∷ negation b ∷ []) bodies) A ≡ (A v || not (any_true bodies A))
-each_says v [] A = or_true (A v)
+each_says v [] A = sym (or_true (A v))
 each_says v (b ∷ bodies) A =
-    ap₂ (λ p q. (A v || (p || false)) && q) (is_true-negation b A) (each_says v bodies A) ∙ spread_or (A v) (is_true b A) (any_true bodies A)
+    ap₂ (λ p q. (A v || (p || false)) && q) (literal_holds-negation b A) (each_says v bodies A) ∙ spread_or (A v) (is_true b A) (any_true bodies A)
 
 defined_by-says : (v : ℕ) (bodies : List Literal) (A : Set) → clauses_true (defined_by v bodies) A ≡ agree (A v) (any_true bodies A)
 defined_by-says v bodies A = ap (λ q. (not (A v) || any_true bodies A) && q) (each_says v bodies A)
 
 -- what is left out again stands there already
-or_again : (x y : Bool) → (x || y) ≡ (x || (x || y))
-or_again true y = refl
-or_again false y = refl
-
-or_swap : (x y p q : Bool) → (x || p) ≡ (x || q) → (x || (y || p)) ≡ (x || (y || q))
-or_swap true y p q e = refl
-or_swap false true p q e = refl
-or_swap false false p q e = e
+or_keep : (x y p q : Bool) → (x || p) ≡ (x || q) → (x || (y || p)) ≡ (x || (y || q))
+or_keep true y p q e = refl
+or_keep false true p q e = refl
+or_keep false false p q e = e
 
 filter-others : (l : Literal) (lits : List Literal) (A : Set) → (is_true l A || any_true (filter (λ k. not (same_literal l k)) lits) A) ≡ (is_true l A || any_true lits A)
 filter-others l [] A = refl
@@ -199,8 +193,8 @@ filter-others l (k ∷ lits) A = go (same_literal l k) refl (filter-others l lit
 
     go : (q : Bool) → same_literal l k ≡ q → (is_true l A || any_true rest A) ≡ (is_true l A || any_true lits A)
         → (is_true l A || any_true (cond (not q) (k ∷ rest) rest) A) ≡ (is_true l A || (is_true k A || any_true lits A))
-    go true e h = h ∙ (or_again (is_true l A) (any_true lits A) ∙ ap (λ j. is_true l A || (is_true j A || any_true lits A)) (same_literal-true l k e))
-    go false e h = or_swap (is_true l A) (is_true k A) _ _ h
+    go true e h = h ∙ (sym (or_again (is_true l A) (any_true lits A)) ∙ ap (λ j. is_true l A || (is_true j A || any_true lits A)) (equal_from_same l k e))
+    go false e h = or_keep (is_true l A) (is_true k A) _ _ h
 
 each_once-says : (lits : List Literal) (A : Set) → any_true (each_once lits) A ≡ any_true lits A
 each_once-says [] A = refl
@@ -243,13 +237,9 @@ atom_clauses-say atoms supports A a = go (is_sure a supports) refl
 
 -- ---- headless rules and required literals
 
-and_one : (b : Bool) → (b && true) ≡ b
-and_one true = refl
-and_one false = refl
-
 headless_clause-says : (atoms : List ℕ) (head : Head) (body : Body) (A : Set) → IsNormalHead head → IsNormalBody body
     → clauses_true (headless_clause atoms head (map (over_variables atoms) (literals_of body))) A ≡ not (is_headless head && holds body (atoms_at atoms A) (atoms_at atoms A))
-headless_clause-says atoms Nothing body A n m = and_one _ ∙ (clause_true-negations (map (over_variables atoms) (literals_of body)) A ∙ ap not (holds-inputs atoms body A m))
+headless_clause-says atoms Nothing body A n m = and_true _ ∙ (clause_true-negations (map (over_variables atoms) (literals_of body)) A ∙ ap not (holds-inputs atoms body A m))
 headless_clause-says atoms (One a) body A n m = refl
 headless_clause-says atoms (Choice as_) body A n m = absurd n
 
@@ -268,23 +258,15 @@ headless-say : (atoms : List ℕ) (rules : List Rule) (A : Set) → AreNormal ru
     → clauses_true (headless_clauses atoms rules) A ≡ not (list_any (λ rule. is_headless rule.head && holds rule.body (atoms_at atoms A) (atoms_at atoms A)) rules)
 headless-say atoms rules A n = clauses_true-flat_map (λ rule. headless_clause atoms rule.head (inputs_of atoms rule)) rules A ∙ each_headless atoms rules A n
 
-or_none : (b : Bool) → (b || false) ≡ b
-or_none true = refl
-or_none false = refl
-
 required-say : (atoms : List ℕ) (lits : List Literal) (A : Set) → clauses_true (required_clauses atoms lits) A ≡ all_hold lits (atoms_at atoms A) (atoms_at atoms A)
 required-say atoms [] A = refl
-required-say atoms (l ∷ lits) A = ap₂ ◌&&◌ (or_none _ ∙ is_true-over atoms l A) (required-say atoms lits A)
+required-say atoms (l ∷ lits) A = ap₂ ◌&&◌ (or_false _ ∙ is_true-over atoms l A) (required-say atoms lits A)
 
 -- ---- all together
 
 list_all-same : {X : Type 0} (p q : X → Bool) (xs : List X) → ((x : X) → p x ≡ q x) → list_all p xs ≡ list_all q xs
 list_all-same p q [] h = refl
 list_all-same p q (x ∷ xs) h = ap₂ ◌&&◌ (h x) (list_all-same p q xs h)
-
-list_all_from : {X : Type 0} (p : X → Bool) (xs : List X) → ((x : X) → p x ≡ true) → list_all p xs ≡ true
-list_all_from p [] h = refl
-list_all_from p (x ∷ xs) h = and_from _ _ (h x) (list_all_from p xs h)
 
 pub Ready-inputs : (atoms : List ℕ) → Ready atoms (inputs_only (length atoms))
 Ready-inputs atoms = record { sound = record { over = tt; known = tt }; up = omega arith }
@@ -384,7 +366,7 @@ module _ (P : Ground) (fits : IsProgram P) (normal : AreNormal P.rules) where
   clauses-from_supported A t s =
       clauses_true-both (with_bodies P).hard (support_clauses P) A t
       (clauses_true-both firsts _ A
-      (atoms-say A t ∙ list_all_from _ P.atoms (λ a. same-agree _ _ (sym (s.step_is a))))
+      (atoms-say A t ∙ list_all-each _ P.atoms (λ a. same-agree _ _ (sym (s.step_is a))))
       (clauses_true-both (headless_clauses P.atoms P.rules) (required_clauses P.atoms P.required) A
       (headless-say P.atoms P.rules A normal ∙ not_from_false _ s.keeps.headless)
       (required-say P.atoms P.required A ∙ s.keeps.required)))

@@ -1,9 +1,9 @@
 -- The line of a clause, literal by literal.
-use Rattle.std.proofs.Common.{◌≡◌, refl, ◌∙◌, sym, ap, ℕ, List, [], ◌∷◌, ◌++◌, map, append_assoc, codes}
+use Rattle.std.proofs.Common.{◌≡◌, refl, ◌∙◌, sym, ap, ℕ, List, [], ◌∷◌, ◌++◌, append_assoc, codes}
 use Rattle.std.specs.List.{flat_map}
 use Rattle.asp_base.specs.Literal.{Literal}
-use Rattle.asp_scan.specs.Words.{spaced, line_of}
-use Rattle.dimacs_format.specs.CnfText.{literal_word, clause_words}
+use Rattle.asp_scan.specs.Words.{line_of}
+use Rattle.dimacs_format.specs.Written.{literal_word, clause_words}
 
 -- a literal and the blank behind it
 abbrev pub literal_piece : Literal → List ℕ

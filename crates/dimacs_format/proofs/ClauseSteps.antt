@@ -1,70 +1,37 @@
 -- The clauses of a text along a walk, number by number and clause by clause.
-use Rattle.std.proofs.Common.{◌≡◌, refl, sym, ◌∙◌, ap, subst, ℕ, suc, ◌+◌, ◌-◌, ◌≤◌, ◌<◌, ◌↔◌, nat_lt, ℤ, pos, nat_abs, Bool, true, false, cond, List, [], ◌∷◌, ◌++◌, length, append_assoc, Option, Some, None, IsSome, IsNone, IfSome, Result, Ok, Err, arith}
+use Rattle.std.proofs.Common.{◌≡◌, refl, sym, ◌∙◌, ap, subst, ℕ, suc, ◌+◌, ◌-◌, ◌≤◌, ◌<◌, ◌↔◌, nat_lt, ℤ, pos, nat_abs, Bool, true, false, cond, List, [], ◌∷◌, ◌++◌, length, append_assoc, Option, Some, None, IsSome, IsNone, IfSome, Ok, Err, arith}
 use Rattle.std.specs.List.{AllByRecursion}
 use Rattle.std.specs.Ordering.{int_eq}
 use Rattle.std.proofs.lemmas.Bool.{cond-true, cond-false, le-ltb}
 use Rattle.std.proofs.lemmas.Bool.Decides.{Decides-int_eq}
+use Rattle.asp_base.proofs.Each.{each-push}
 use Rattle.asp_base.specs.Literal.{Literal, literal_of}
 use Rattle.asp_scan.specs.Scanning.{Scanning}
-use Rattle.asp_scan.specs.Tokens.{token_at, integer_of, fits_i64, checked, with_rest, number_at}
+use Rattle.asp_scan.specs.Tokens.{token_at, number_of, number_at}
+use Rattle.asp_scan.proofs.Numerals.{Numbered, numbered, Unnumbered, unnumbered}
 use Rattle.asp_scan.specs.declared.scan.ScanFault.{ScanFault}
-use Rattle.asp_scan.specs.declared.scan.ScanFault.TheVariants.{Missing, TooWide}
-use Rattle.clause_store.specs.Inside.{IsOver}
-use Rattle.dimacs_format.specs.Dimacs.{Fault, fault, ◌>>=◌, Token, number_of, number, literal, clause, clauses}
-use Rattle.dimacs_format.specs.Reading.{Refuses}
-use Rattle.dimacs_format.specs.Walks.{tokens_left, onto, clause_from}
+use Rattle.clause_store.specs.Facts.{IsOver}
+use Rattle.dimacs_format.specs.Read.{Reading, Token, number, literal, clause, clauses}
+use Rattle.asp_base.specs.Faults.{fault, ◌>>=◌, Refuses}
+use Rattle.dimacs_format.specs.private.Walks.{tokens_left, onto, clause_from}
+use Rattle.dimacs_format.specs.declared.kind.FormulaKind.{FormulaKind}
 use Rattle.dimacs_format.specs.declared.kind.FormulaKind.TheVariants.{BadNumber}
-use Rattle.dimacs_format.specs.declared.refusal.FormulaRefusal.{FormulaRefusal}
-use Rattle.dimacs_format.specs.declared.refusal.FormulaRefusal.TheVariants.{At, Memory}
+use Rattle.asp_base.specs.declared.faults.Refusal.{Refusal}
+use Rattle.asp_base.specs.declared.faults.Refusal.TheVariants.{At, Memory}
 use Rattle.dimacs_format.proofs.Left.{tokens_left-some}
-
--- ---- numbers
-
-checked-ok : (o : Option ℤ) (left : List ℕ) (n : ℤ) (rest : List ℕ) → with_rest (checked o) left ≡ Ok (n, rest)
-    → (elim o as (λ x. Option ℤ) [ None ↦ None | Some m ↦ cond (fits_i64 m) (Some m) None ] ≡ Some n) × (left ≡ rest)
-checked-ok None left n rest e = absurd (cc)
-checked-ok (Some m) left n rest e = by (fits_i64 m) e
-  where
-    by : (b : Bool) → with_rest (cond b (Ok m) (Err TooWide)) left ≡ Ok (n, rest) → (cond b (Some m) None ≡ Some n) × (left ≡ rest)
-    by true h = (ap (λ x. elim x as (λ y. Option ℤ) [ Ok p ↦ Some p.0 | Err f ↦ None ]) h, ap (λ x. elim x as (λ y. List ℕ) [ Ok p ↦ p.1 | Err f ↦ [] ]) h)
-    by false h = absurd (cc)
-
-checked-err : (o : Option ℤ) (left : List ℕ) (f : ScanFault) → with_rest (checked o) left ≡ Err f → elim o as (λ x. Option ℤ) [ None ↦ None | Some m ↦ cond (fits_i64 m) (Some m) None ] ≡ None
-checked-err None left f e = refl
-checked-err (Some m) left f e = by (fits_i64 m) e
-  where
-    by : (b : Bool) → with_rest (cond b (Ok m) (Err TooWide)) left ≡ Err f → cond b (Some m) None ≡ None
-    by true h = absurd (cc)
-    by false h = refl
-
--- the token of a number, and what follows it
-record Numbered (line : List ℕ) (n : ℤ) (rest : List ℕ) : Type 0 where
-  word : List ℕ
-  at : token_at line ≡ Some (word, rest)
-  value : number_of word ≡ Some n
-
-numbered : (line : List ℕ) (n : ℤ) (rest : List ℕ) → number_at line ≡ Ok (n, rest) → Numbered line n rest
-numbered line n rest e = by (token_at line) refl e
-  where
-    by : (o : Option (List ℕ × List ℕ)) → token_at line ≡ o
-        → elim o as (λ x. Result (ℤ × List ℕ) ScanFault) [ None ↦ Err Missing | Some token ↦ with_rest (checked (integer_of token.0)) token.1 ] ≡ Ok (n, rest) → Numbered line n rest
-    by None t h = absurd (cc)
-    by (Some token) t h =
-        let both : (number_of token.0 ≡ Some n) × (token.1 ≡ rest) = checked-ok (integer_of token.0) token.1 n rest h in
-        record { word = token.0; at = t ∙ ap (λ r. Some (token.0, r)) both.1; value = both.0 }
 
 -- ---- a number of a clause
 
 pub after_number : (last vars : ℕ) (token : Token) (n : ℤ) (tokens : List Token) → number_of token.text ≡ Some n
     → clause last vars (token ∷ tokens) ≡ cond (int_eq n (pos 0)) (Ok ([], tokens)) (literal vars token.line n >>= λ l. onto (l ∷ []) (clause last vars tokens))
 after_number last vars token n tokens h =
-    let k : ℤ → Result (List Literal × List Token) Fault = λ m. cond (int_eq m (pos 0)) (Ok ([], tokens)) (literal vars token.line m >>= λ l. onto (l ∷ []) (clause last vars tokens)) in
-    ap (λ o. elim o as (λ x. Result ℤ Fault) [ None ↦ fault token.line BadNumber | Some m ↦ Ok m ] >>= k) h
+    let k : ℤ → Reading (List Literal × List Token) = λ m. cond (int_eq m (pos 0)) (Ok ([], tokens)) (literal vars token.line m >>= λ l. onto (l ∷ []) (clause last vars tokens)) in
+    ap (λ o. elim o as (λ x. Reading ℤ) [ None ↦ fault token.line BadNumber | Some m ↦ Ok m ] >>= k) h
 
 after_no_number : (last vars : ℕ) (token : Token) (tokens : List Token) → number_of token.text ≡ None → clause last vars (token ∷ tokens) ≡ fault token.line BadNumber
 after_no_number last vars token tokens h =
-    let k : ℤ → Result (List Literal × List Token) Fault = λ m. cond (int_eq m (pos 0)) (Ok ([], tokens)) (literal vars token.line m >>= λ l. onto (l ∷ []) (clause last vars tokens)) in
-    ap (λ o. elim o as (λ x. Result ℤ Fault) [ None ↦ fault token.line BadNumber | Some m ↦ Ok m ] >>= k) h
+    let k : ℤ → Reading (List Literal × List Token) = λ m. cond (int_eq m (pos 0)) (Ok ([], tokens)) (literal vars token.line m >>= λ l. onto (l ∷ []) (clause last vars tokens)) in
+    ap (λ o. elim o as (λ x. Reading ℤ) [ None ↦ fault token.line BadNumber | Some m ↦ Ok m ] >>= k) h
 
 zero_is : (n : ℤ) → n ≡ pos 0 → int_eq n (pos 0) ≡ true
 zero_is n e = ap (λ m. int_eq m (pos 0)) e
@@ -77,18 +44,18 @@ not_zero n h = by (int_eq n (pos 0)) refl
     by false e = refl
 
 module _ (last vars : ℕ) (start found new : Scanning) (same_left : tokens_left found ≡ tokens_left start) (rest : new ≡ record found { left = new.left }) (n : ℤ) (number : number_at found.left ≡ Ok (n, new.left)) where
-  read : Numbered found.left n new.left
-  read = numbered found.left n new.left number
+  word : Numbered found.left n new.left
+  word = numbered found.left n new.left number
 
-  one_token : tokens_left start ≡ record { line = found.line.number; text = read.word } ∷ tokens_left new
+  one_token : tokens_left start ≡ record { line = found.line.number; text = word.word } ∷ tokens_left new
   one_token =
-      sym same_left ∙ tokens_left-some found (read.word, new.left) read.at ∙ ap (λ s. record { line = found.line.number; text = read.word } ∷ tokens_left s) (sym rest)
+      sym same_left ∙ tokens_left-some found (word.word, new.left) word.at ∙ ap (λ s. record { line = found.line.number; text = word.word } ∷ tokens_left s) (sym rest)
 
   pub shorter_left : length (tokens_left new) < length (tokens_left start)
   shorter_left = omega (arith, ap length one_token)
 
   step : clause last vars (tokens_left start) ≡ cond (int_eq n (pos 0)) (Ok ([], tokens_left new)) (literal vars found.line.number n >>= λ l. onto (l ∷ []) (clause last vars (tokens_left new)))
-  step = ap (clause last vars) one_token ∙ after_number last vars (record { line = found.line.number; text = read.word }) n (tokens_left new) read.value
+  step = ap (clause last vars) one_token ∙ after_number last vars (record { line = found.line.number; text = word.word }) n (tokens_left new) word.value
 
   pub literal_step : nat_abs n ≤ vars → (lit : Option Literal) (m : ℤ) → m ≡ n → IsNone lit ↔ (m ≡ pos 0) → IfSome lit (λ l. l ≡ literal_of m)
       → clause last vars (tokens_left start) ≡ clause_from last vars lit (tokens_left new)
@@ -99,37 +66,28 @@ module _ (last vars : ℕ) (start found new : Scanning) (same_left : tokens_left
       ∙ ap (λ r. r >>= λ l. onto (l ∷ []) (clause last vars (tokens_left new))) (cond-false (nat_lt vars (nat_abs n)) _ _ (le-ltb vars (nat_abs n) within))
       ∙ ap (λ x. onto (x ∷ []) (clause last vars (tokens_left new))) (sym (value ∙ ap literal_of same))
 
-pub bad_number : (last vars : ℕ) (start found new : Scanning) (f : ScanFault) (refusal : FormulaRefusal) → tokens_left found ≡ tokens_left start → IsSome (token_at found.left)
+pub bad_number : (last vars : ℕ) (start found new : Scanning) (f : ScanFault) (refusal : Refusal FormulaKind) → tokens_left found ≡ tokens_left start → IsSome (token_at found.left)
     → number_at found.left ≡ Err f → new ≡ found → refusal ≡ At new.line.number BadNumber → Refuses (clause last vars (tokens_left start)) refusal
 bad_number last vars start found new f refusal same some number stays is =
     let line : new.line.number ≡ found.line.number = ap (λ (s : Scanning). s.line.number) stays in
-    subst (Refuses (clause last vars (tokens_left start))) (sym (is ∙ ap (λ k. At k BadNumber) line)) (by (token_at found.left) refl some number)
-  where
-    by : (o : Option (List ℕ × List ℕ)) → token_at found.left ≡ o → IsSome o
-        → elim o as (λ x. Result (ℤ × List ℕ) ScanFault) [ None ↦ Err Missing | Some token ↦ with_rest (checked (integer_of token.0)) token.1 ] ≡ Err f
-        → clause last vars (tokens_left start) ≡ fault found.line.number BadNumber
-    by None t some h = absurd (cc)
-    by (Some token) t some h =
-        ap (clause last vars) (sym same ∙ tokens_left-some found token t)
-        ∙ after_no_number last vars (record { line = found.line.number; text = token.0 }) (tokens_left (record found { left = token.1 })) (checked-err (integer_of token.0) token.1 f h)
+    let word : Unnumbered found.left = unnumbered found.left f some number in
+    subst (Refuses (clause last vars (tokens_left start))) (sym (is ∙ ap (λ k. At k BadNumber) line))
+    (ap (clause last vars) (sym same ∙ tokens_left-some found word.token word.at)
+    ∙ after_no_number last vars (record { line = found.line.number; text = word.token.0 }) (tokens_left (record found { left = word.token.1 })) word.none)
 
 -- ---- what was read so far, in front of what is still to be read
 
-pub onto-next : {A : Type 0} (front : List A) (x : A) (read : Result (List A × List Token) Fault) → onto front (onto (x ∷ []) read) ≡ onto (front ++ (x ∷ [])) read
+pub onto-next : {A : Type 0} (front : List A) (x : A) (read : Reading (List A × List Token)) → onto front (onto (x ∷ []) read) ≡ onto (front ++ (x ∷ [])) read
 onto-next front x (Ok read) = ap (λ xs. Ok (xs, read.1)) (sym (append_assoc front (x ∷ []) read.0))
 onto-next front x (Err e) = refl
 
 -- a fault of what is still to be read is one of the whole
-pub refused-onto : {A : Type 0} (front : List A) (read whole : Result (List A × List Token) Fault) (refusal : FormulaRefusal) → onto front read ≡ whole → Refuses read refusal → Refuses whole refusal
+pub refused-onto : {A : Type 0} (front : List A) (read whole : Reading (List A × List Token)) (refusal : Refusal FormulaKind) → onto front read ≡ whole → Refuses read refusal → Refuses whole refusal
 refused-onto front read whole (At line kind) e h = sym e ∙ ap (onto front) h
 refused-onto front read whole Memory e h = tt
 
 one_more : (n i : ℕ) → i < n → n - i ≡ suc (n - (i + 1))
 one_more n i more = omega arith
-
-over-push : {A : Type 0} (P : A → Type 0) (front : List A) (x : A) → AllByRecursion P front → P x → AllByRecursion P (front ++ (x ∷ []))
-over-push P [] x h here = (here, tt)
-over-push P (y ∷ front) x h here = (h.0, over-push P front x h.1 here)
 
 -- what the loop over the clauses keeps
 pub record ClausesSoFar (vars n i : ℕ) (start now : Scanning) (hard : List (List Literal)) : Type 0 where
@@ -147,12 +105,12 @@ ClausesSoFar-next {vars = vars} {n = n} {i = i} {start = start} {now = now} {aft
           ∙ ap (onto hard) (sym (is (n - (i + 1))))
           ∙ ap (λ m. onto hard (clauses now.last vars m (tokens_left now))) (sym (one_more n i more))
           ∙ h.same;
-      over = over-push (AllByRecursion (IsOver vars)) hard lits h.over over;
+      over = each-push (AllByRecursion (IsOver vars)) hard lits h.over over;
       last = last ∙ h.last;
     } in
     subst (λ xs. ClausesSoFar vars n (i + 1) start after xs) (sym (grown ∙ ap (λ xs. hard ++ (xs ∷ [])) same)) next
 
-pub ClausesSoFar-fails : {vars n i : ℕ} {start now : Scanning} {hard : List (List Literal)} (refusal : FormulaRefusal) → ClausesSoFar vars n i start now hard → i < n
+pub ClausesSoFar-fails : {vars n i : ℕ} {start now : Scanning} {hard : List (List Literal)} (refusal : Refusal FormulaKind) → ClausesSoFar vars n i start now hard → i < n
     → ((k : ℕ) → Refuses (clauses now.last vars (suc k) (tokens_left now)) refusal) → Refuses (clauses start.last vars n (tokens_left start)) refusal
 ClausesSoFar-fails {vars = vars} {n = n} {i = i} {start = start} {now = now} {hard = hard} refusal h more is =
     refused-onto hard (clauses now.last vars (suc (n - (i + 1))) (tokens_left now)) (clauses start.last vars n (tokens_left start)) refusal

@@ -1,29 +1,26 @@
 -- A CNF text that is written is read as the same formula.
-use Rattle.std.proofs.Common.{◌≡◌, refl, sym, ◌∙◌, ap, ap₂, ℕ, zero, suc, ◌-◌, ◌^◌, ◌≤◌, ◌<◌, ◌==◌, nat_le, nat_lt, ℤ, pos, negsuc, nat_abs, int_le, true, false, not, cond, ◌&&◌, List, [], ◌∷◌, ◌++◌, map, length, append_assoc, Option, Some, None, Result, Ok, decimal, codes, arith}
+use Rattle.std.proofs.Common.{◌≡◌, refl, sym, ◌∙◌, ap, ap₂, ℕ, zero, suc, ◌-◌, ◌^◌, ◌≤◌, ◌<◌, ◌==◌, nat_le, nat_lt, ℤ, pos, negsuc, nat_abs, int_le, true, false, not, cond, ◌&&◌, List, [], ◌∷◌, ◌++◌, map, length, append_assoc, Option, Some, None, Ok, decimal, codes, arith}
 use Rattle.std.specs.Fmt.{signed_decimal}
 use Rattle.std.specs.List.{AllByRecursion, flat_map, list_all}
 use Rattle.std.specs.Ordering.{int_eq}
 use Rattle.std.proofs.lemmas.Bool.{and_parts, and_from, cond-true, cond-false, true≢false, le-ltb, le-leb, leb-true, ne_eqb}
+use Rattle.asp_base.specs.Faults.{fault, ◌>>=◌}
 use Rattle.asp_base.specs.Literal.{Literal, Pos, Neg, integer_of}
 use Rattle.asp_scan.specs.Lines.{Line, is_blank_line, pieces_of, numbered, end_line}
 use Rattle.asp_scan.specs.Tokens.{is_digit, fits_i64, tokens, begins_with}
 use Rattle.asp_scan.specs.Words.{spaced, line_of, IsWord}
 use Rattle.asp_scan.proofs.LineText.{numbered-written}
 use Rattle.asp_scan.proofs.WordText.{spaced-line, spaced-not_blank, spaced-tokens}
-use Rattle.asp_scan.proofs.NumberText.{decimal-spells, decimal-word, signed-word, integer_of-signed, IsShort-from_fits, fits_i64-pos, fits_i64-negsuc}
+use Rattle.asp_scan.proofs.NumberText.{decimal-spells, decimal-word, fitting-is_word, IsShort-from_fits, number_of-signed, fits_i64-pos, fits_i64-negsuc}
 use Rattle.clause_store.specs.Clauses.{Clauses}
-use Rattle.clause_store.specs.Inside.{IsOver, Fits}
-use Rattle.dimacs_format.specs.CnfText.{literal_word, clause_words, header_words, cnf_text}
-use Rattle.dimacs_format.specs.Dimacs.{Fault, fault, ◌>>=◌, is_comment, content_of, Token, tokens_of, number_of, up_to, with_counts, header_of, literal, clause, clauses, ended, behind, from_lines, formula_of}
-use Rattle.dimacs_format.specs.Walks.{onto}
+use Rattle.clause_store.specs.Facts.{IsOver, Fits}
+use Rattle.dimacs_format.specs.Written.{literal_word, clause_words, header_words, cnf_text}
+use Rattle.dimacs_format.specs.Read.{Reading, is_comment, content_of, Token, tokens_of, up_to, with_counts, header_of, literal, clause, clauses, ended, behind, from_lines, formula_of}
+use Rattle.dimacs_format.specs.private.Walks.{onto}
 use Rattle.dimacs_format.specs.declared.kind.FormulaKind.TheVariants.{BadHeader}
 use Rattle.dimacs_format.proofs.ClauseSteps.{after_number, not_zero}
 
 -- ---- numbers
-
-number_of-signed : (z : ℤ) → fits_i64 z ≡ true → number_of (signed_decimal z) ≡ Some z
-number_of-signed z fits =
-    ap (λ o. elim o as (λ x. Option ℤ) [ None ↦ None | Some n ↦ cond (fits_i64 n) (Some n) None ]) (integer_of-signed z (IsShort-from_fits z fits)) ∙ cond-true (fits_i64 z) (Some z) None fits
 
 up_to-read : (most n : ℕ) → n ≤ most → most < 2 ^ 63 → up_to most (decimal n) ≡ Some n
 up_to-read most n l h =
@@ -83,7 +80,7 @@ clauses-read last vars line v (c ∷ cs) o =
 
 clause-words : (vars : ℕ) → vars ≤ 2 ^ 31 - 1 → (c : List Literal) → AllByRecursion (IsOver vars) c → AllByRecursion IsWord (clause_words c)
 clause-words vars v [] o = (refl, tt)
-clause-words vars v (l ∷ c) o = (signed-word (integer_of l) (IsShort-from_fits (integer_of l) (literal-fits vars v l o.0)), clause-words vars v c o.1)
+clause-words vars v (l ∷ c) o = (fitting-is_word (integer_of l) (literal-fits vars v l o.0), clause-words vars v c o.1)
 
 header-words : (F : Clauses) → Fits F → length F.hard < 2 ^ 63 → AllByRecursion IsWord (header_words F)
 header-words F f small = (refl, (refl, (decimal-word F.vars (let k : F.vars ≤ 2 ^ 31 - 1 = f.vars in omega arith), (decimal-word (length F.hard) (omega arith), tt))))
@@ -168,5 +165,5 @@ pub cnf-read : (F : Clauses) → Fits F → F.edges ≡ [] → F.soft ≡ [] →
 cnf-read F f edges soft top small =
     let last : ℕ = end_line (cnf_text F) in
     ap (from_lines last) (content-text F f small)
-    ∙ (ap (λ h. elim h as (λ x. Result Clauses Fault) [ None ↦ fault 1 BadHeader | Some header ↦ behind last header (tokens_of (lines_at 2 F.hard)) ]) (header-read F f small)
+    ∙ (ap (λ h. elim h as (λ x. Reading Clauses) [ None ↦ fault 1 BadHeader | Some header ↦ behind last header (tokens_of (lines_at 2 F.hard)) ]) (header-read F f small)
     ∙ (ap (behind last (record { vars = F.vars; clauses = length F.hard })) (tokens-read F.vars 2 f.vars F.hard f.hard) ∙ behind-read last F f edges soft top))

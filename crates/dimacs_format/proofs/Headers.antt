@@ -3,9 +3,9 @@ use Rattle.std.proofs.Common.{◌≡◌, refl, ◌∙◌, ap, ap₂, ℕ, ◌-�
 use Rattle.std.proofs.lemmas.Bool.{cond-true, cond-false}
 use Rattle.std.specs.Str.{bytes_eq}
 use Rattle.asp_scan.specs.Tokens.{token_at, tokens}
-use Rattle.dimacs_format.specs.Dimacs.{up_to, Header, with_counts, header_of}
-use Rattle.dimacs_format.specs.Walks.{and_rest, count_at}
-use Rattle.dimacs_format.proofs.Left.{tokens-some, tokens-none}
+use Rattle.dimacs_format.specs.Read.{up_to, Header, with_counts, header_of}
+use Rattle.dimacs_format.specs.private.Walks.{and_rest, count_at}
+use Rattle.asp_scan.proofs.LineTokens.{tokens-some, tokens-none}
 
 -- ---- counts
 

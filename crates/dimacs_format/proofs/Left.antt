@@ -1,64 +1,10 @@
 -- The tokens that a walk has still to come to.
-use Rattle.std.proofs.Common.{◌≡◌, refl, sym, ◌∙◌, ap, ℕ, zero, suc, ◌≤◌, ◌<◌, Bool, true, false, cond, List, [], ◌∷◌, ◌++◌, map, length, Option, Some, None, arith}
-use Rattle.asp_scan.specs.Lines.{is_blank}
+use Rattle.std.proofs.Common.{◌≡◌, ap, ℕ, List, ◌∷◌, ◌++◌, map, Some, None}
 use Rattle.asp_scan.specs.Scanning.{Scanning}
-use Rattle.asp_scan.specs.Tokens.{skip_blanks, token_front, after_token, token_at, tokens_within, tokens}
-use Rattle.dimacs_format.specs.Dimacs.{content_of, tokens_of}
-use Rattle.dimacs_format.specs.Walks.{tokens_left}
-
-after_token-short : (bytes : List ℕ) → length (after_token bytes) ≤ length bytes
-after_token-short [] = omega arith
-after_token-short (byte ∷ bytes) = by (is_blank byte) (after_token-short bytes)
-  where
-    by : (b : Bool) → length (after_token bytes) ≤ length bytes → length (cond b (byte ∷ bytes) (after_token bytes)) ≤ length (byte ∷ bytes)
-    by true h = omega arith
-    by false h = omega arith
-
-abbrev first_token : List ℕ → Option (List ℕ × List ℕ)
-first_token line = elim line [ [] ↦ None | byte ∷ bytes ↦ Some (token_front (byte ∷ bytes), after_token (byte ∷ bytes)) ]
-
--- what follows a token is shorter than the line
-token_at-shorter : (line : List ℕ) (token : List ℕ × List ℕ) → token_at line ≡ Some token → length token.1 < length line
-token_at-shorter [] token e = absurd (cc)
-token_at-shorter (byte ∷ bytes) token e = by (is_blank byte) refl e (λ h. token_at-shorter bytes token h) (after_token-short bytes)
-  where
-    by : (b : Bool) → is_blank byte ≡ b → first_token (cond b (skip_blanks bytes) (byte ∷ bytes)) ≡ Some token
-        → (token_at bytes ≡ Some token → length token.1 < length bytes) → length (after_token bytes) ≤ length bytes → length token.1 < length (byte ∷ bytes)
-    by true b h rest short = let k : length token.1 < length bytes = rest h in omega arith
-    by false b h rest short =
-        let same : after_token (byte ∷ bytes) ≡ token.1 = ap (λ o. elim o as (λ x. List ℕ) [ None ↦ [] | Some t ↦ t.1 ]) h in
-        let found : after_token (byte ∷ bytes) ≡ after_token bytes = ap (λ c. cond c (byte ∷ bytes) (after_token bytes)) b in
-        let k : length (after_token bytes) ≡ length token.1 = ap length (sym found ∙ same) in
-        omega arith
-
-none-left : (most : ℕ) → tokens_within most [] ≡ []
-none-left zero = refl
-none-left (suc most) = refl
-
--- there are no more tokens than bytes
-within-same : (m k : ℕ) (line : List ℕ) → length line ≤ m → length line ≤ k → tokens_within m line ≡ tokens_within k line
-within-same zero k [] h j = sym (none-left k)
-within-same zero k (byte ∷ bytes) h j = absurd (omega arith)
-within-same (suc m) zero [] h j = refl
-within-same (suc m) zero (byte ∷ bytes) h j = absurd (omega arith)
-within-same (suc m) (suc k) line h j = by (token_at line) refl (λ rest a b. within-same m k rest a b)
-  where
-    by : (o : Option (List ℕ × List ℕ)) → token_at line ≡ o → ((rest : List ℕ) → length rest ≤ m → length rest ≤ k → tokens_within m rest ≡ tokens_within k rest)
-        → elim o as (λ x. List (List ℕ)) [ None ↦ [] | Some token ↦ token.0 ∷ tokens_within m token.1 ] ≡ elim o as (λ x. List (List ℕ)) [ None ↦ [] | Some token ↦ token.0 ∷ tokens_within k token.1 ]
-    by None e rest = refl
-    by (Some token) e rest = let short : length token.1 < length line = token_at-shorter line token e in ap (λ ts. token.0 ∷ ts) (rest token.1 (omega arith) (omega arith))
-
--- the tokens of a line are the first, and those of what follows it
-pub tokens-some : (line : List ℕ) (token : List ℕ × List ℕ) → token_at line ≡ Some token → tokens line ≡ token.0 ∷ tokens token.1
-tokens-some [] token e = absurd (cc)
-tokens-some (byte ∷ bytes) token e =
-    let short : length token.1 < length (byte ∷ bytes) = token_at-shorter (byte ∷ bytes) token e in
-    ap (λ o. elim o as (λ x. List (List ℕ)) [ None ↦ [] | Some t ↦ t.0 ∷ tokens_within (length bytes) t.1 ]) e
-    ∙ ap (λ ts. token.0 ∷ ts) (within-same (length bytes) (length token.1) token.1 (omega arith) (omega arith))
-
-pub tokens-none : (line : List ℕ) → token_at line ≡ None → tokens line ≡ []
-tokens-none [] e = refl
-tokens-none (byte ∷ bytes) e = ap (λ o. elim o as (λ x. List (List ℕ)) [ None ↦ [] | Some t ↦ t.0 ∷ tokens_within (length bytes) t.1 ]) e
+use Rattle.asp_scan.specs.Tokens.{token_at}
+use Rattle.asp_scan.proofs.LineTokens.{tokens-some, tokens-none}
+use Rattle.dimacs_format.specs.Read.{content_of, tokens_of}
+use Rattle.dimacs_format.specs.private.Walks.{tokens_left}
 
 pub tokens_left-some : (s : Scanning) (token : List ℕ × List ℕ) → token_at s.left ≡ Some token → tokens_left s ≡ record { line = s.line.number; text = token.0 } ∷ tokens_left (record s { left = token.1 })
 tokens_left-some s token e = ap (λ ts. map (λ text. record { line = s.line.number; text = text }) ts ++ tokens_of (content_of s.ahead)) (tokens-some s.left token e)

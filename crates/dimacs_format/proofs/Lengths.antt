@@ -1,15 +1,16 @@
 -- How long the lines of a text are.
-use Rattle.std.proofs.Common.{◌≡◌, ◌∙◌, sym, ap, ℕ, zero, suc, ◌+◌, ◌-◌, ◌*◌, ◌^◌, ◌<◌, ◌≤◌, List, [], ◌∷◌, ◌++◌, length, decimal, codes, take, get_or, slice_get, Some, lit<, subst, arith}
+use Rattle.std.proofs.Common.{◌≡◌, ◌∙◌, sym, ap, ℕ, zero, suc, ◌+◌, ◌*◌, ◌^◌, ◌<◌, ◌≤◌, List, [], ◌∷◌, ◌++◌, length, decimal, codes, take, slice_get, Some, lit<, subst, arith}
 use Rattle.std.specs.List.{flat_map, AllByRecursion}
 use Rattle.std.proofs.lemmas.List.{length-append, flat_map_more}
 use Rattle.std.proofs.lemmas.Option.{get_or_from_slice_get, slice_get_within}
 use Rattle.std.proofs.lemmas.Fmt.{length-decimal-le}
+use Rattle.asp_base.proofs.Each.{each-get}
 use Rattle.asp_base.specs.Literal.{Literal, Pos, Neg}
 use Rattle.asp_scan.specs.Words.{line_of}
 use Rattle.clause_store.specs.Clauses.{Clauses}
-use Rattle.clause_store.specs.Inside.{IsOver}
-use Rattle.dimacs_format.specs.CnfText.{literal_word, clause_words, header_words, clause_lines}
-use Rattle.dimacs_format.proofs.Fronts.{take_read}
+use Rattle.clause_store.specs.Facts.{IsOver}
+use Rattle.dimacs_format.specs.Written.{literal_word, clause_words, header_words, clause_lines}
+use Rattle.asp_scan.proofs.Appends.{take_read}
 use Rattle.dimacs_format.proofs.ClauseLines.{literal_piece, clause_line_pieces}
 
 word_length : (k n : ℕ) (l : Literal) → 0 < k → n < 10 ^ k → n < 2 ^ 64 → IsOver n l → length (literal_word l) ≤ k + 1
@@ -46,10 +47,5 @@ lines_more clauses i clause e =
     ∙ ap length (sym (flat_map_more (λ lits. line_of (clause_words lits)) [] (take i clauses) clause))
     ∙ length-append (clause_lines (take i clauses)) (line_of (clause_words clause))
 
-all_get : {A : Type 0} (P : A → Type 0) (xs : List A) (i : ℕ) (d : A) → AllByRecursion P xs → i < length xs → P (get_or xs i d)
-all_get P [] i d h w = absurd (omega arith)
-all_get P (x ∷ xs) zero d h w = h.0
-all_get P (x ∷ xs) (suc i) d h w = all_get P xs i d h.1 (omega arith)
-
 pub all_at : {A : Type 0} (P : A → Type 0) (xs : List A) (i : ℕ) (x : A) → AllByRecursion P xs → slice_get xs i ≡ Some x → P x
-all_at P xs i x h e = subst P (get_or_from_slice_get xs i x x e) (all_get P xs i x h (slice_get_within xs i x e))
+all_at P xs i x h e = subst P (get_or_from_slice_get xs i x x e) (each-get P xs i x (slice_get_within xs i x e) h)

@@ -1,8 +1,6 @@
 mod ClauseLines
 mod ClauseSteps
 pub mod CnfRoundTrip
-mod FormulaRows
-mod Fronts
 mod Headers
 mod Left
 mod Lengths

@@ -3,9 +3,9 @@ use Rattle.std.proofs.Common.{◌≡◌, ap, ℕ, ◌+◌, ◌^◌, ◌<◌, ◌
 use Rattle.asp_base.specs.Literal.{Literal}
 use Rattle.asp_scan.specs.Words.{spaced, line_of}
 use Rattle.clause_store.specs.Clauses.{Clauses}
-use Rattle.clause_store.specs.Inside.{Fits}
-use Rattle.dimacs_format.specs.CnfText.{clause_words, header_words, clause_lines, cnf_text}
-use Rattle.dimacs_format.specs.Dimacs.{formula_of}
+use Rattle.clause_store.specs.Facts.{Fits}
+use Rattle.dimacs_format.specs.Written.{clause_words, header_words, clause_lines, cnf_text}
+use Rattle.dimacs_format.specs.Read.{formula_of}
 use Rattle.dimacs_format.proofs.CnfRoundTrip.{cnf-read}
 
 -- every clause has a line
@@ -18,10 +18,10 @@ clauses-within (c ∷ cs) =
     omega arith
 
 pub written-read : (before after : List ℕ) (F : Clauses) → Fits F → F.edges ≡ [] → F.soft ≡ [] → F.top ≡ 1 → length after < 2 ^ 63
-    → after ≡ before ++ cnf_text F → (text : List ℕ) × (after ≡ before ++ text) × (formula_of text ≡ Ok F)
+    → after ≡ before ++ cnf_text F → formula_of (cnf_text F) ≡ Ok F
 written-read before after F fits edges soft top small e =
     let whole : length after ≡ length (before ++ cnf_text F) = ap length e in
     let behind : length (before ++ cnf_text F) ≡ length before + length (cnf_text F) = length-append before (cnf_text F) in
     let lines : length (cnf_text F) ≡ length (line_of (header_words F)) + length (clause_lines F.hard) = length-append (line_of (header_words F)) (clause_lines F.hard) in
     let clauses : length F.hard ≤ length (clause_lines F.hard) = clauses-within F.hard in
-    (cnf_text F, e, cnf-read F fits edges soft top (omega arith))
+    cnf-read F fits edges soft top (omega arith)

@@ -1,22 +1,106 @@
--- Small CNF texts, by computation.
-use Rattle.std.proofs.Common.{◌≡◌, refl, ℕ, List, [], ◌∷◌, codes}
+-- The reader's definition and the writer's on small texts, by computation.
+use Rattle.std.proofs.Common.{◌≡◌, refl, ℕ, List, [], ◌∷◌, codes, Ok}
 use Rattle.std.specs.Fmt.{digits}
+use Rattle.asp_base.specs.Faults.{fault}
 use Rattle.asp_base.specs.Literal.{Literal, Pos, Neg}
 use Rattle.clause_store.specs.Clauses.{Clauses}
-use Rattle.dimacs_format.specs.CnfText.{cnf_text}
+use Rattle.dimacs_format.specs.Read.{formula_of}
+use Rattle.dimacs_format.specs.Written.{cnf_text}
+use Rattle.dimacs_format.specs.declared.kind.FormulaKind.TheVariants.{BadHeader, BadNumber, LiteralOutOfRange, WrongCount, NoEnd}
+
+-- ---- what is read
 
 abbrev hard_only : ℕ → List (List Literal) → Clauses
 hard_only vars hard = record { vars = vars; hard = hard; edges = []; soft = []; top = 1 }
 
-even : cnf_text (hard_only 2 ((Neg 1 ∷ Neg 2 ∷ []) ∷ (Pos 1 ∷ Pos 2 ∷ []) ∷ (Neg 2 ∷ Neg 1 ∷ []) ∷ (Pos 2 ∷ Pos 1 ∷ []) ∷ []))
-    ≡ codes "p cnf 2 4\n-1 -2 0\n1 2 0\n-2 -1 0\n2 1 0\n"
-unfolding digits
-even = refl
+-- hard clauses over the variables 1 and 2
+abbrev over_two : List (List Literal) → Clauses
+over_two = hard_only 2
 
-nothing : cnf_text (hard_only 0 []) ≡ codes "p cnf 0 0\n"
-unfolding digits
+-- no truth value of two variables makes them all true
+abbrev all_four : List (List Literal)
+all_four = (Neg 1 ∷ Neg 2 ∷ []) ∷ (Pos 1 ∷ Pos 2 ∷ []) ∷ (Neg 2 ∷ Neg 1 ∷ []) ∷ (Pos 2 ∷ Pos 1 ∷ []) ∷ []
+
+clauses_by_lines : formula_of (codes "p cnf 2 4\n-1 -2 0\n1 2 0\n-2 -1 0\n2 1 0\n") ≡ Ok (over_two all_four)
+clauses_by_lines = refl
+
+-- comments stand before the header and between clauses, and blank lines too
+comments : formula_of (codes "c 1 0\n\np cnf 2 4\n-1 -2 0\n1 2 0\ncp cnf\n \n-2 -1 0\r\n2 1 0") ≡ Ok (over_two all_four)
+comments = refl
+
+-- a clause goes over the end of a line, and a line has more than one clause
+clause_over_lines : formula_of (codes "p cnf 2 4\n-1\n\t-2 0 1 2 0 -2\nc 0\n-1 0 2 1 0\n") ≡ Ok (over_two all_four)
+clause_over_lines = refl
+
+empty_clause : formula_of (codes "p cnf 2 2\n0\n2 0\n") ≡ Ok (over_two ([] ∷ (Pos 2 ∷ []) ∷ []))
+empty_clause = refl
+
+no_clauses : formula_of (codes "p cnf 2 0\n") ≡ Ok (over_two [])
+no_clauses = refl
+
+-- the text ends at line 2, before the second clause
+too_few : formula_of (codes "p cnf 1 2\n1 0\n") ≡ fault 2 WrongCount
+too_few = refl
+
+-- the first token behind the last clause
+too_many : formula_of (codes "p cnf 1 1\n1 0\nc\n1 0\n") ≡ fault 4 WrongCount
+too_many = refl
+
+no_number_behind : formula_of (codes "p cnf 1 1\n1 0 x\n") ≡ fault 2 WrongCount
+no_number_behind = refl
+
+no_end : formula_of (codes "p cnf 1 1\n1\n") ≡ fault 2 NoEnd
+no_end = refl
+
+out_of_range : formula_of (codes "p cnf 1 1\n2 0\n") ≡ fault 2 LiteralOutOfRange
+out_of_range = refl
+
+negative_out_of_range : formula_of (codes "p cnf 1 1\n\n-2 0\n") ≡ fault 3 LiteralOutOfRange
+negative_out_of_range = refl
+
+bad_number : formula_of (codes "p cnf 1 1\nx 0\n") ≡ fault 2 BadNumber
+bad_number = refl
+
+-- a number above 64 bits
+wide_number : formula_of (codes "p cnf 1 1\n9223372036854775808 0\n") ≡ fault 2 BadNumber
+wide_number = refl
+
+weighted_header : formula_of (codes "p wcnf 1 1 3\n") ≡ fault 1 BadHeader
+weighted_header = refl
+
+edge_header : formula_of (codes "p ecnf 1 1 0\n") ≡ fault 1 BadHeader
+edge_header = refl
+
+-- a header is of four tokens, and counts are not negative
+long_header : formula_of (codes "c\np cnf 1 1 0\n") ≡ fault 2 BadHeader
+long_header = refl
+
+negative_count : formula_of (codes "p cnf 1 -1\n") ≡ fault 1 BadHeader
+negative_count = refl
+
+many_variables : formula_of (codes "p cnf 2147483648 0\n") ≡ fault 1 BadHeader
+many_variables = refl
+
+clause_before_header : formula_of (codes "1 0\np cnf 1 1\n") ≡ fault 1 BadHeader
+clause_before_header = refl
+
+nothing : formula_of [] ≡ fault 1 BadHeader
 nothing = refl
 
-empty_clause : cnf_text (hard_only 0 ([] ∷ [])) ≡ codes "p cnf 0 1\n0\n"
+comment_only : formula_of (codes "c\nc\n") ≡ fault 2 BadHeader
+comment_only = refl
+
+-- ---- what is written
+
+clauses_written : cnf_text (over_two all_four)
+    ≡ codes "p cnf 2 4\n-1 -2 0\n1 2 0\n-2 -1 0\n2 1 0\n"
 unfolding digits
-empty_clause = refl
+clauses_written = refl
+
+no_clauses_written : cnf_text (hard_only 0 []) ≡ codes "p cnf 0 0\n"
+unfolding digits
+no_clauses_written = refl
+
+empty_clause_written : cnf_text (hard_only 0 ([] ∷ [])) ≡ codes "p cnf 0 1\n0\n"
+unfolding digits
+empty_clause_written = refl

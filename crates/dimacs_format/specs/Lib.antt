@@ -1,4 +1,3 @@
-pub mod CnfText
-pub mod Dimacs
-pub mod Reading
-pub mod Walks
+pub mod Read
+pub mod Written
+pub mod private

@@ -1,14 +1,14 @@
-//! The clauses of a formula's text.
+//! The clauses of a formula's text, number by number over the ends of lines.
+
 ghost use Rattle.std.specs.Prelude.{◌≡◌, ◌≤◌, ◌<◌, ◌-◌, ◌^◌, ◌↔◌, ℕ, suc, pos, unsigned_abs, [], ◌∷◌, length, IsNone, IfSome, IfOk, OnOk, IfErr};
 ghost use Rattle.std.specs.List.{AllByRecursion};
 ghost use Rattle.asp_base.specs.Literal.{literal_of};
-ghost use Rattle.clause_store.specs.Inside.{IsOver};
-ghost use Rattle.dimacs_format.specs.Dimacs.{clause, clauses};
-ghost use Rattle.dimacs_format.specs.Reading.{Refuses};
-ghost use Rattle.dimacs_format.specs.Walks.{tokens_left, onto, clause_from};
+ghost use Rattle.clause_store.specs.Facts.{IsOver};
+ghost use Rattle.dimacs_format.specs.Read.{clause, clauses};
+ghost use Rattle.asp_base.specs.Faults.{Refuses};
+ghost use Rattle.dimacs_format.specs.private.Walks.{tokens_left, onto, clause_from};
 
-use crate::kind::FormulaKind;
-use crate::refusal::FormulaRefusal;
+use crate::kind::{FormulaKind, FormulaRefusal};
 use crate::tokens::{fault_at, find_token};
 use asp_base::Lit;
 use asp_scan::Scan;
@@ -16,14 +16,15 @@ use clause_store::ClauseList;
 use std::alloc::Global;
 
 /// So many clauses over the variables 1 to `vars`.
-pub fn clauses(
+pub(crate) fn clauses(
     alloc: Global,
     scan: &mut Scan<'_>,
     vars: u32,
     n: u64,
 ) -> Result<ClauseList, FormulaRefusal>
     requires { vars ≤ 2 ^ 31 - 1 }
-    ensures ok { IfOk result (λ hard. clauses scan.old.last vars n (tokens_left scan.old) ≡ Ok (hard, tokens_left scan.new)) }
+    ensures ok { IfOk result (λ hard.
+        clauses scan.old.last vars n (tokens_left scan.old) ≡ Ok (hard, tokens_left scan.new)) }
     ensures over { IfOk result (λ hard. AllByRecursion (AllByRecursion (IsOver vars)) hard) }
     ensures err { IfErr result (λ refusal. Refuses (clauses scan.old.last vars n (tokens_left scan.old)) refusal) }
     ensures last { scan.new.last ≡ scan.old.last }
@@ -43,7 +44,8 @@ fn next_clause(scan: &mut Scan<'_>, vars: u32, lits: &mut Vec<Lit>) -> Result<()
     ensures ok { OnOk result ((n : ℕ) → clauses scan.old.last vars (suc n) (tokens_left scan.old)
         ≡ onto (lits.new.items ∷ []) (clauses scan.old.last vars n (tokens_left scan.new))) }
     ensures over { OnOk result (AllByRecursion (IsOver vars) lits.new.items) }
-    ensures err { IfErr result (λ refusal. (n : ℕ) → Refuses (clauses scan.old.last vars (suc n) (tokens_left scan.old)) refusal) }
+    ensures err { IfErr result (λ refusal.
+        (n : ℕ) → Refuses (clauses scan.old.last vars (suc n) (tokens_left scan.old)) refusal) }
     ensures last { scan.new.last ≡ scan.old.last }
 {
     if find_token(scan) {
@@ -56,7 +58,8 @@ fn next_clause(scan: &mut Scan<'_>, vars: u32, lits: &mut Vec<Lit>) -> Result<()
 /// The literals up to the next 0, in `lits`.
 fn literals(scan: &mut Scan<'_>, vars: u32, lits: &mut Vec<Lit>) -> Result<(), FormulaRefusal>
     requires { vars ≤ 2 ^ 31 - 1 }
-    ensures ok { OnOk result (clause scan.old.last vars (tokens_left scan.old) ≡ Ok (lits.new.items, tokens_left scan.new)) }
+    ensures ok { OnOk result (
+        clause scan.old.last vars (tokens_left scan.old) ≡ Ok (lits.new.items, tokens_left scan.new)) }
     ensures over { OnOk result (AllByRecursion (IsOver vars) lits.new.items) }
     ensures err { IfErr result (λ refusal. Refuses (clause scan.old.last vars (tokens_left scan.old)) refusal) }
     ensures last { scan.new.last ≡ scan.old.last }
@@ -71,7 +74,9 @@ fn literals(scan: &mut Scan<'_>, vars: u32, lits: &mut Vec<Lit>) -> Result<(), F
 /// A further literal of a clause, or None at the 0 that ends it.
 fn next_literal(scan: &mut Scan<'_>, vars: u32) -> Result<Option<Lit>, FormulaRefusal>
     requires { vars ≤ 2 ^ 31 - 1 }
-    ensures ok { IfOk result (λ lit. clause scan.old.last vars (tokens_left scan.old) ≡ clause_from scan.old.last vars lit (tokens_left scan.new)) }
+    ensures ok { IfOk result (λ lit.
+        clause scan.old.last vars (tokens_left scan.old)
+        ≡ clause_from scan.old.last vars lit (tokens_left scan.new)) }
     ensures over { IfOk result (λ lit. IfSome lit (λ l. IsOver vars l)) }
     ensures shorter { OnOk result (length (tokens_left scan.new) < length (tokens_left scan.old)) }
     ensures err { IfErr result (λ refusal. Refuses (clause scan.old.last vars (tokens_left scan.old)) refusal) }

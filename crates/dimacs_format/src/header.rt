@@ -1,13 +1,13 @@
 //! The header of a formula's text.
+
 ghost use Rattle.std.specs.Prelude.{◌≡◌, ◌≤◌, ◌-◌, ◌^◌, ◌&&◌, [], codes, IsNone, IfSome, IsSome, IfOk, IfErr};
 ghost use Rattle.std.specs.Str.{bytes_eq};
 ghost use Rattle.asp_scan.specs.Tokens.{tokens};
-ghost use Rattle.dimacs_format.specs.Dimacs.{content_of, header_of, behind, from_lines};
-ghost use Rattle.dimacs_format.specs.Reading.{Refuses};
-ghost use Rattle.dimacs_format.specs.Walks.{tokens_left, count_at};
+ghost use Rattle.dimacs_format.specs.Read.{content_of, header_of, behind, from_lines};
+ghost use Rattle.asp_base.specs.Faults.{Refuses};
+ghost use Rattle.dimacs_format.specs.private.Walks.{tokens_left, count_at};
 
-use crate::kind::FormulaKind;
-use crate::refusal::FormulaRefusal;
+use crate::kind::{FormulaKind, FormulaRefusal};
 use crate::tokens::{fault_at, next_content};
 use asp_scan::Scan;
 
@@ -17,13 +17,13 @@ const MOST_CLAUSES: u64 = (1 << 63) - 1;
 
 /// The numbers of variables and of clauses.
 #[derive(Clone, Copy)]
-pub struct Header {
+pub(crate) struct Header {
     pub vars: u32,
     pub clauses: u64,
 }
 
 /// The header, in the first line that counts.
-pub fn first_line(scan: &mut Scan<'_>) -> Result<Header, FormulaRefusal>
+pub(crate) fn first_line(scan: &mut Scan<'_>) -> Result<Header, FormulaRefusal>
     ensures ok { IfOk result (λ h. from_lines scan.old.last (content_of scan.old.ahead)
         ≡ behind scan.old.last (record { vars = h.vars; clauses = h.clauses }) (tokens_left scan.new)) }
     ensures vars { IfOk result (λ h. h.vars ≤ 2 ^ 31 - 1) }
@@ -40,7 +40,8 @@ pub fn first_line(scan: &mut Scan<'_>) -> Result<Header, FormulaRefusal>
 
 /// The words `p` and `cnf`, two counts, and no more.
 fn header_line(scan: &mut Scan<'_>) -> Option<Header>
-    ensures some { IfSome result (λ h. header_of (tokens scan.old.left) ≡ Some (record { vars = h.vars; clauses = h.clauses })) }
+    ensures some { IfSome result (λ h.
+        header_of (tokens scan.old.left) ≡ Some (record { vars = h.vars; clauses = h.clauses })) }
     ensures vars { IfSome result (λ h. h.vars ≤ 2 ^ 31 - 1) }
     ensures end { IsSome result → tokens scan.new.left ≡ [] }
     ensures none { IsNone result → header_of (tokens scan.old.left) ≡ None }

@@ -1,3 +1,9 @@
+//! What is wrong with a formula's text.
+
+ghost use Rattle.std.specs.Prelude.{◌≤◌, length};
+
+use asp_base::Refusal;
+
 /// What is wrong with a formula's text.
 #[derive(Clone, Copy, Debug, PartialEq, Eq)]
 pub enum FormulaKind {
@@ -7,12 +13,26 @@ pub enum FormulaKind {
     BadNumber,
     /// A literal's variable is above the number of variables.
     LiteralOutOfRange,
-    /// There are more or fewer clauses or edges than the header says.
+    /// There are more or fewer clauses than the header says.
     WrongCount,
-    /// A weight is below 1.
-    ZeroWeight,
-    /// A line is no edge where one is due.
-    BadEdge,
     /// The text ends within a clause.
     NoEnd,
 }
+
+impl FormulaKind {
+    /// The name of the fault, at most 17 bytes.
+    pub fn name(self) -> &'static str
+        ensures { length result.now ≤ 17 }
+    {
+        match self {
+            FormulaKind::BadHeader => "BadHeader",
+            FormulaKind::BadNumber => "BadNumber",
+            FormulaKind::LiteralOutOfRange => "LiteralOutOfRange",
+            FormulaKind::WrongCount => "WrongCount",
+            FormulaKind::NoEnd => "NoEnd",
+        }
+    }
+}
+
+/// The first fault of a formula's text with the number of its line, from 1, or want of memory.
+pub type FormulaRefusal = Refusal<FormulaKind>;

@@ -1,12 +1,13 @@
+//! The reader of formulas.
+
 ghost use Rattle.std.specs.Prelude.{◌≡◌, ◌≤◌, ◌-◌, ◌^◌, Ok, IfOk, IfErr};
-ghost use Rattle.dimacs_format.specs.Dimacs.{behind, formula_of};
-ghost use Rattle.dimacs_format.specs.Reading.{Refuses};
-ghost use Rattle.dimacs_format.specs.Walks.{tokens_left};
+ghost use Rattle.dimacs_format.specs.Read.{behind, formula_of};
+ghost use Rattle.asp_base.specs.Faults.{Refuses};
+ghost use Rattle.dimacs_format.specs.private.Walks.{tokens_left};
 
 use crate::clauses::clauses;
 use crate::header::{Header, first_line};
-use crate::kind::FormulaKind;
-use crate::refusal::FormulaRefusal;
+use crate::kind::{FormulaKind, FormulaRefusal};
 use crate::tokens::{fault_at, find_token};
 use asp_scan::Scan;
 use clause_store::{Formula, LitEdgeList, SoftList};
@@ -14,12 +15,12 @@ use std::alloc::Global;
 
 /// The formula of a CNF text, or its first fault with its line.
 ///
-/// Blank lines, and lines whose first byte is a `c`, say nothing. The first other line is `p cnf V C`, refused with `BadHeader`
-/// where it is not that; V is at most 2^31 - 1, and C at most 2^63 - 1. Then come C clauses, each of literals and a 0 that ends
-/// it, over any lines. A token that is no number of 64 bits is refused with `BadNumber`, a literal whose variable is above V
-/// with `LiteralOutOfRange`, a token behind the last clause with `WrongCount`; and at the line of the end, fewer clauses than C
-/// with `WrongCount`, and a clause that has no end with `NoEnd`. `Memory` where memory runs out: as much is taken as clauses are
-/// read, and none for the numbers that the header gives.
+/// Blank lines, and lines whose first byte is a `c`, say nothing. The first other line is `p cnf V C`, refused with
+/// `BadHeader` where it is not that; V is at most 2^31 - 1, and C at most 2^63 - 1. Then come C clauses, each of
+/// literals and a 0 that ends it, over any lines. A token that is no number of 64 bits is refused with `BadNumber`, a
+/// literal whose variable is above V with `LiteralOutOfRange`, a token behind the last clause with `WrongCount`; and at
+/// the line of the end, fewer clauses than C with `WrongCount`, and a clause that has no end with `NoEnd`. `Memory`
+/// where memory runs out: as much is taken as clauses are read, and none for the numbers that the header gives.
 pub fn read(alloc: Global, text: &[u8]) -> Result<Formula, FormulaRefusal>
     ensures formula { IfOk result (λ formula. formula_of text.now ≡ Ok formula) }
     ensures fault { IfErr result (λ refusal. Refuses (formula_of text.now) refusal) }
@@ -32,8 +33,13 @@ pub fn read(alloc: Global, text: &[u8]) -> Result<Formula, FormulaRefusal>
 /// The clauses behind a header, and no more.
 fn formula(alloc: Global, scan: &mut Scan<'_>, header: Header) -> Result<Formula, FormulaRefusal>
     requires { header.vars ≤ 2 ^ 31 - 1 }
-    ensures ok { IfOk result (λ formula. behind scan.old.last (record { vars = header.vars; clauses = header.clauses }) (tokens_left scan.old) ≡ Ok formula) }
-    ensures err { IfErr result (λ refusal. Refuses (behind scan.old.last (record { vars = header.vars; clauses = header.clauses }) (tokens_left scan.old)) refusal) }
+    ensures ok { IfOk result (λ formula.
+        behind scan.old.last (record { vars = header.vars; clauses = header.clauses }) (tokens_left scan.old)
+        ≡ Ok formula) }
+    ensures err { IfErr result (λ refusal.
+        Refuses
+        (behind scan.old.last (record { vars = header.vars; clauses = header.clauses }) (tokens_left scan.old))
+        refusal) }
 {
     let hard = clauses(alloc, scan, header.vars, header.clauses)?;
     if find_token(scan) {
@@ -46,46 +52,4 @@ fn formula(alloc: Global, scan: &mut Scan<'_>, header: Header) -> Result<Formula
         soft: SoftList::new(alloc),
         top: 1,
     })
-}
-
-#[cfg(test)]
-mod tests {
-    use super::*;
-    use std::test::Fail;
-
-    const FAULTS: [(&[u8], u64, FormulaKind); 9] = [
-        (b"", 1, FormulaKind::BadHeader),
-        (b"c\n\np wcnf 1 1 3\n", 3, FormulaKind::BadHeader),
-        (b"p cnf 2147483648 0\n", 1, FormulaKind::BadHeader),
-        (b"p cnf 1 -1\n", 1, FormulaKind::BadHeader),
-        (b"p cnf 1 2\n1 0\n", 2, FormulaKind::WrongCount),
-        (b"p cnf 1 1\n1 0\nc\nx\n", 4, FormulaKind::WrongCount),
-        (b"p cnf 1 9223372036854775807\n1\n", 2, FormulaKind::NoEnd),
-        (b"p cnf 1 1\n-2 0\n", 2, FormulaKind::LiteralOutOfRange),
-        (
-            b"p cnf 1 1\n9223372036854775808 0\n",
-            2,
-            FormulaKind::BadNumber,
-        ),
-    ];
-
-    #[test]
-    fn reads_texts(rt: HostRuntime) -> Result<(), Fail> {
-        let alloc = rt.alloc();
-        for (text, line, kind) in FAULTS {
-            match read(alloc, text) {
-                Ok(_) => assert!(rt; false),
-                Err(refusal) => assert_eq!(rt; refusal, FormulaRefusal::At { line, kind }),
-            }
-        }
-        let formula = read(alloc, b"c a\np cnf 2 3\r\n-1\n\t-2 0 0\nc 1 0\n2 0")?;
-        assert_eq!(rt; formula.vars, 2);
-        assert_eq!(rt; formula.hard.len(), 3);
-        assert!(rt; formula.hard.get(1).is_empty());
-        let values: [i32; 2] = [-1, -2];
-        for (lit, value) in formula.hard.get(0).iter().zip(values) {
-            assert_eq!(rt; lit.value(), value);
-        }
-        Ok(())
-    }
 }

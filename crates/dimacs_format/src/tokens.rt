@@ -1,17 +1,17 @@
 //! The tokens of a formula's text, over the ends of lines and comments.
+
 ghost use Rattle.std.specs.Prelude.{◌≡◌, ◌<◌, [], ◌∷◌, length, IsSome};
 ghost use Rattle.std.specs.Bool.{OnTrue, OnFalse};
 ghost use Rattle.asp_scan.specs.Tokens.{token_at};
-ghost use Rattle.dimacs_format.specs.Dimacs.{content_of};
-ghost use Rattle.dimacs_format.specs.Walks.{tokens_left};
-ghost use Rattle.dimacs_format.specs.declared.refusal.FormulaRefusal.TheVariants as refusals;
+ghost use Rattle.dimacs_format.specs.Read.{content_of};
+ghost use Rattle.dimacs_format.specs.private.Walks.{tokens_left};
+ghost use Rattle.asp_base.specs.declared.faults.Refusal.TheVariants as refusals;
 
-use crate::kind::FormulaKind;
-use crate::refusal::FormulaRefusal;
+use crate::kind::{FormulaKind, FormulaRefusal};
 use asp_scan::Scan;
 
 /// A fault at the line where the walk stands.
-pub fn fault_at(scan: &Scan<'_>, kind: FormulaKind) -> FormulaRefusal
+pub(crate) fn fault_at(scan: &Scan<'_>, kind: FormulaKind) -> FormulaRefusal
     ensures { result ≡ refusals.At scan.now.line.number kind }
 {
     FormulaRefusal::At {
@@ -20,9 +20,9 @@ pub fn fault_at(scan: &Scan<'_>, kind: FormulaKind) -> FormulaRefusal
     }
 }
 
-/// Goes to the next line that is neither blank nor a comment. False where there is none: the walk then stands at the line of
-/// the end.
-pub fn next_content(scan: &mut Scan<'_>) -> bool
+/// Goes to the next line that is neither blank nor a comment. False where there is none: the walk then stands at the
+/// line of the end.
+pub(crate) fn next_content(scan: &mut Scan<'_>) -> bool
     ensures more { OnTrue result (content_of scan.old.ahead ≡ scan.new.line ∷ content_of scan.new.ahead) }
     ensures front { OnTrue result (scan.new.left ≡ scan.new.line.bytes) }
     ensures shorter { OnTrue result (length scan.new.ahead < length scan.old.ahead) }
@@ -38,9 +38,9 @@ pub fn next_content(scan: &mut Scan<'_>) -> bool
     false
 }
 
-/// Goes to the next token, which may stand in a later line. False where there is none: the walk then stands at the line of
-/// the end.
-pub fn find_token(scan: &mut Scan<'_>) -> bool
+/// Goes to the next token, which may stand in a later line. False where there is none: the walk then stands at the
+/// line of the end.
+pub(crate) fn find_token(scan: &mut Scan<'_>) -> bool
     ensures same { OnTrue result (tokens_left scan.new ≡ tokens_left scan.old) }
     ensures found { OnTrue result (IsSome (token_at scan.new.left)) }
     ensures none { OnFalse result (tokens_left scan.old ≡ []) }

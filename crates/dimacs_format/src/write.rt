@@ -1,7 +1,10 @@
+//! The writer of formulas. It takes room for the whole text at once, so that a text of many clauses is not copied as
+//! it grows.
+
 ghost use Rattle.std.specs.Prelude.{◌≡◌, ℕ, ◌++◌, ◌<◌, ◌≤◌, ◌-◌, ◌^◌, min, List, [], length, take, Ok, OnOk, OnErr};
 ghost use Rattle.asp_scan.specs.Words.{line_of};
-ghost use Rattle.dimacs_format.specs.CnfText.{clause_words, header_words, clause_lines, cnf_text};
-ghost use Rattle.dimacs_format.specs.Dimacs.{formula_of};
+ghost use Rattle.dimacs_format.specs.Written.{clause_words, header_words, clause_lines, cnf_text};
+ghost use Rattle.dimacs_format.specs.Read.{formula_of};
 
 use asp_base::{Lit, Memory};
 use asp_scan::push_number;
@@ -17,7 +20,7 @@ pub fn write_cnf(formula: &Formula, out: &mut Vec<u8>) -> Result<(), Memory>
     requires top { formula.now.top ≡ 1 }
     ensures ok { OnOk result (out.new.items ≡ out.old.items ++ cnf_text formula.now) }
     // What is appended is read as this formula.
-    ensures read_back { OnOk result ((text : List ℕ) × (out.new.items ≡ out.old.items ++ text) × (formula_of text ≡ Ok formula.now)) }
+    ensures read_back { OnOk result (formula_of (cnf_text formula.now) ≡ Ok formula.now) }
     ensures err { OnErr result (out.new.items ≡ out.old.items) }
 {
     formula.known();
@@ -47,8 +50,8 @@ fn push_lines(formula: &Formula, out: &mut Vec<u8>) -> Result<(), Memory>
     push_clauses(&formula.hard, out)
 }
 
-/// At least the length of the text, or the greatest number: no literal is longer than a sign, as many digits as the last
-/// variable has, and a blank.
+/// At least the length of the text, or the greatest number: no literal is longer than a sign, as many digits as the
+/// last variable has, and a blank.
 fn most_bytes(formula: &Formula) -> usize
     ensures { min (length (cnf_text formula.now)) (2 ^ 64 - 1) ≤ result }
 {

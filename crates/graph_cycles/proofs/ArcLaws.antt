@@ -1,5 +1,5 @@
 -- Edges that are sorted by their first nodes.
-use Rattle.std.proofs.Common.{◌≡◌, ◌≢◌, ℕ, zero, suc, ◌<◌, ◌≤◌, Bool, true, false, ◌&&◌, ◌⊎◌, ℤ, pos, ◌<ℤ◌, ◌≤ℤ◌, List, [], ◌∷◌, length, cond, get_or, arith, refl, sym, ◌∙◌, subst, ⊎_elim, inl, inr, ap}
+use Rattle.std.proofs.Common.{◌≡◌, ◌≢◌, ℕ, zero, suc, ◌<◌, ◌≤◌, Bool, true, false, ◌&&◌, ◌⊎◌, ℤ, pos, ◌<ℤ◌, List, [], ◌∷◌, length, cond, get_or, arith, refl, sym, ◌∙◌, subst, ⊎_elim, inl, inr, ap}
 use mathlib.Core.Path.{fun_ext}
 use Rattle.std.specs.Int.RustNames.{int_lt}
 use Rattle.std.specs.List.Sorted.{IsSorted, IsPartitionedBy, IsPartitionPoint}
@@ -10,8 +10,9 @@ use Rattle.std.proofs.lemmas.List.{get_or_default}
 use Rattle.std.proofs.lemmas.List.Sorted.{ranks_by, sorted_far}
 use Rattle.std.proofs.lemmas.Bool.{cond-true, cases_lt, cases_order, and_from, and_parts, or_left, or_right, or_cases, true≢false}
 use Rattle.std.proofs.lemmas.Bool.Decides.{Decides-int_eq}
+use Rattle.asp_base.proofs.IntegerTests.{lt-from_test, le-from_test, test-from_lt}
 use Rattle.std.proofs.lemmas.Int.{ints, by_lt_z}
-use Rattle.graph_cycles.specs.Arcs.{arc_at, Ascends, Starts}
+use Rattle.graph_cycles.specs.private.Arcs.{arc_at, Ascends, Starts}
 use Rattle.graph_cycles.specs.Cycle.{leads}
 
 pub same-int : (x y : ℤ) → x ≡ y → int_eq x y ≡ true
@@ -69,11 +70,8 @@ starts-before arcs ascends (suc j) below =
     let same : (arc_at arcs j).0 ≡ (arc_at arcs (suc j)).0 = omega (arith, ints) in
     (before.0, subst (λ node. Starts arcs node before.0) same before.1))
 
-below-test : (x y : ℤ) → x <ℤ y → int_lt x y ≡ true
-below-test x y less = grind (arith, ints)
-
 below-cmp : (x y : ℤ) → x <ℤ y → int_cmp x y ≡ Less
-below-cmp x y less = cond-true (int_lt x y) Less (cond (int_lt y x) Greater Equal) (below-test x y less)
+below-cmp x y less = cond-true (int_lt x y) Less (cond (int_lt y x) Greater Equal) (test-from_lt x y less)
 
 sooner : (one other : ℤ × ℤ) → one.0 <ℤ other.0 → is_lt (ordering_then (int_cmp one.0 other.0) (int_cmp one.1 other.1)) ≡ true
 sooner one other less =
@@ -88,12 +86,6 @@ ascends-from_sorted arcs sorted i j rises below =
     (λ less. absurd (true≢false (sym (sooner (arc_at arcs j) (arc_at arcs i) less) ∙ far)))
     (λ least. least)
 
-test-below : (x y : ℤ) → int_lt x y ≡ true → x <ℤ y
-test-below x y test = grind (arith, ints)
-
-test-above : (x y : ℤ) → int_lt x y ≡ false → y ≤ℤ x
-test-above x y test = grind (arith, ints)
-
 at-default : (arcs : List (ℤ × ℤ)) (i : ℕ) (d : ℤ × ℤ) → i < length arcs → get_or arcs i d ≡ arc_at arcs i
 at-default arcs i d below = get_or_default arcs i d (pos 0, pos 0) below
 
@@ -101,9 +93,9 @@ at-default arcs i d below = get_or_default arcs i d (pos 0, pos 0) below
 pub parted : (arcs : List (ℤ × ℤ)) (node : ℤ) → Ascends arcs → IsPartitionedBy (λ arc. int_lt arc.0 node) arcs
 parted arcs node ascends i j d rises below test =
     let rise = ascends i j rises below in
-    let under = test-below (arc_at arcs j).0 node (ap (λ arc. int_lt arc.0 node) (sym (at-default arcs j d below)) ∙ test) in
+    let under = lt-from_test (arc_at arcs j).0 node (ap (λ arc. int_lt arc.0 node) (sym (at-default arcs j d below)) ∙ test) in
     let lower : (arc_at arcs i).0 <ℤ node = omega (arith, ints) in
-    ap (λ arc. int_lt arc.0 node) (at-default arcs i d (omega arith)) ∙ below-test (arc_at arcs i).0 node lower
+    ap (λ arc. int_lt arc.0 node) (at-default arcs i d (omega arith)) ∙ test-from_lt (arc_at arcs i).0 node lower
 
 -- what it finds
 
@@ -114,15 +106,15 @@ pub starts-at : (arcs : List (ℤ × ℤ)) (node : ℤ) (i : ℕ) → IsPoint ar
 starts-at arcs node i point below here = record {
   within = below;
   here = here;
-  first = λ j less. test-below (arc_at arcs j).0 node (point.0 j (pos 0, pos 0) (omega arith) less);
+  first = λ j less. lt-from_test (arc_at arcs j).0 node (point.0 j (pos 0, pos 0) (omega arith) less);
 }
 
 pub starts-not : (arcs : List (ℤ × ℤ)) (node : ℤ) (i : ℕ) → Ascends arcs → IsPoint arcs node i → (i < length arcs → (arc_at arcs i).0 ≡ node → ⊥) → (start : ℕ) → Starts arcs node start → ⊥
 starts-not arcs node i ascends point apart start starts =
-    ⊎_elim (λ (less : start < i). not_below (arc_at arcs start).0 node starts.here (test-below (arc_at arcs start).0 node (point.0 start (pos 0, pos 0) (omega arith) less)))
+    ⊎_elim (λ (less : start < i). not_below (arc_at arcs start).0 node starts.here (lt-from_test (arc_at arcs start).0 node (point.0 start (pos 0, pos 0) (omega arith) less)))
     (λ (least : i ≤ start). let within = starts.within in
     let rise = ascends i start least within in
-    let above = test-above (arc_at arcs i).0 node (point.1 i (pos 0, pos 0) (omega arith) (omega arith)) in
+    let above = le-from_test (arc_at arcs i).0 node (point.1 i (pos 0, pos 0) (omega arith) (omega arith)) in
     let here = starts.here in
     apart (omega arith) (omega (arith, ints)))
     (cases_lt start i)

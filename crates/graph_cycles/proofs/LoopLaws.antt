@@ -10,7 +10,7 @@ use Rattle.std.proofs.lemmas.Map.Keys.{IsDistinct-IsPermutation}
 use Rattle.std.proofs.lemmas.Map.Made.{IsDistinct-from_AllPairs}
 use Rattle.asp_base.specs.Walks.{IsWalk}
 use Rattle.graph_cycles.specs.Cycle.{IsCycle}
-use Rattle.graph_cycles.specs.Loop.{IsLoop}
+use Rattle.graph_cycles.specs.private.Loop.{IsLoop}
 use Rattle.graph_cycles.proofs.ArcLaws.{same-int, int-same}
 use Rattle.graph_cycles.proofs.WalkLaws.{walk-join, walk-parts, walk-along}
 

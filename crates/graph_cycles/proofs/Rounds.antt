@@ -1,9 +1,9 @@
 -- The rounds of a search, by what is seen at the last step.
 use Rattle.std.proofs.Common.{◌≡◌, ℕ, ◌+◌, ◌-◌, ◌<◌, true, ℤ, List, [], ◌∷◌, ◌++◌, length, take, set, get_or, arith, refl, sym, subst}
 use Rattle.std.proofs.lemmas.List.{get_or_read}
-use Rattle.graph_cycles.specs.Arcs.{arc_at}
+use Rattle.graph_cycles.specs.private.Arcs.{arc_at}
 use Rattle.graph_cycles.specs.Cycle.{leads}
-use Rattle.graph_cycles.specs.Searching.{step_at, node_of, Searching, IsFound, Looked, weight}
+use Rattle.graph_cycles.specs.private.Searching.{step_at, node_of, Searching, IsFound, Looked, weight}
 use Rattle.graph_cycles.specs.declared.descent.Look.TheVariants as looks
 use Rattle.graph_cycles.specs.declared.descent.Mark.{Mark}
 use Rattle.graph_cycles.specs.declared.descent.Mark.TheVariants.{OnPath, Done}

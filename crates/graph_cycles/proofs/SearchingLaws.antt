@@ -4,9 +4,9 @@ use Rattle.std.specs.List.{AllPairs}
 use Rattle.std.proofs.lemmas.Bool.{cases_eq, cases_lt}
 use Rattle.std.proofs.lemmas.List.{get_or_append_left, get_or_push, get_or-set_same, get_or-set_other, get_or-take, get_or-map, length-set, length-take-le, length-map, length-replicate, length_push}
 use Rattle.asp_base.specs.Walks.{IsWalk, Acyclic}
-use Rattle.graph_cycles.specs.Arcs.{arc_at, Ascends, Starts}
+use Rattle.graph_cycles.specs.private.Arcs.{arc_at, Ascends, Starts}
 use Rattle.graph_cycles.specs.Cycle.{leads}
-use Rattle.graph_cycles.specs.Searching.{mark_at, is_unseen, step_at, node_of, Settled, IsOpen, Searching, StaysSeen, IsFound, IsEdge}
+use Rattle.graph_cycles.specs.private.Searching.{mark_at, is_unseen, step_at, node_of, Settled, IsOpen, Searching, StaysSeen, IsFound, IsEdge}
 use Rattle.graph_cycles.specs.declared.descent.Mark.{Mark}
 use Rattle.graph_cycles.specs.declared.descent.Mark.TheVariants.{Unseen, OnPath, Done}
 use Rattle.graph_cycles.specs.declared.descent.Step.{Step}

@@ -3,7 +3,7 @@ use Rattle.std.proofs.Common.{◌≡◌, ℕ, ◌+◌, ◌-◌, ◌<◌, ◌≤�
 use Rattle.std.specs.List.{count_by, sum_by}
 use Rattle.std.proofs.lemmas.List.{take_all}
 use Rattle.std.proofs.lemmas.List.Sums.{sum_by-set, sum_by_push, sum_by_more}
-use Rattle.graph_cycles.specs.Searching.{mark_at, is_unseen, step_at, weight}
+use Rattle.graph_cycles.specs.private.Searching.{mark_at, is_unseen, step_at, weight}
 use Rattle.graph_cycles.specs.declared.descent.Mark.{Mark}
 use Rattle.graph_cycles.specs.declared.descent.Mark.TheVariants.{Unseen, OnPath, Done}
 use Rattle.graph_cycles.specs.declared.descent.Step.{Step}

@@ -1,4 +1,2 @@
-pub mod Arcs
 pub mod Cycle
-pub mod Loop
-pub mod Searching
+pub mod private

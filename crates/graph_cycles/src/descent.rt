@@ -1,9 +1,14 @@
+//! A depth-first search with a stack of its own, so that a long path needs no deep calls. An edge to a node on the path
+//! closes a cycle; a node whose edges are all looked at is done. Each edge is looked at once: linear after the sort,
+//! but for the halving that finds a node. (Tarjan, Depth-first search and linear graph algorithms, SIAM J. Comput. 1,
+//! 1972; Cormen, Leiserson, Rivest, Stein, Introduction to Algorithms, "Depth-first search".)
+
 ghost use Rattle.std.specs.Prelude.{◌≡◌, ℕ, ◌+◌, ◌<◌, ◌≤◌, ℤ, [], ◌∷◌, ◌++◌, false, length, take, drop, map, set, None, IsNone, IfSome, IfOk, OnOk, replicate};
 ghost use Rattle.asp_base.specs.Walks.{Acyclic};
-ghost use Rattle.graph_cycles.specs.Arcs.{Ascends, Starts, arc_at};
+ghost use Rattle.graph_cycles.specs.private.Arcs.{Ascends, Starts, arc_at};
 ghost use Rattle.graph_cycles.specs.Cycle.{leads};
-ghost use Rattle.graph_cycles.specs.Loop.{IsLoop};
-ghost use Rattle.graph_cycles.specs.Searching.{Descends, IsFound, Looked, Settled, StaysSeen, is_unseen, mark_at, node_of, weight_of};
+ghost use Rattle.graph_cycles.specs.private.Loop.{IsLoop};
+ghost use Rattle.graph_cycles.specs.private.Searching.{Descends, IsFound, Looked, Settled, StaysSeen, is_unseen, mark_at, node_of, weight_of};
 
 use crate::arcs::start_of;
 use asp_base::Memory;
@@ -11,7 +16,7 @@ use std::alloc::Global;
 
 /// What a search knows of a node.
 #[derive(Clone, Copy)]
-pub enum Mark {
+pub(crate) enum Mark {
     Unseen,
     /// It is on the path, at this place.
     OnPath(usize),
@@ -21,14 +26,14 @@ pub enum Mark {
 
 /// A node on the path: where its edges begin, and the edge that is looked at.
 #[derive(Clone, Copy)]
-pub struct Step {
+pub(crate) struct Step {
     start: usize,
     at: usize,
 }
 
 /// What is seen at a step.
 #[derive(Clone, Copy)]
-pub enum Look {
+pub(crate) enum Look {
     /// No edge is left.
     Ended,
     /// The edge leads to a node that is done, or has no edges.
@@ -41,13 +46,13 @@ pub enum Look {
 
 /// A search: the marks of the nodes, each at the place where the edges from it begin, and the path.
 #[derive(Drop)]
-pub struct Descent {
+pub(crate) struct Descent {
     marks: Vec<Mark>,
     path: Vec<Step>,
 }
 
 /// The nodes of a cycle of the graph whose sorted edges these are; None exactly where there is none.
-pub fn search(alloc: Global, arcs: &[(i32, i32)]) -> Result<Option<Vec<i32>>, Memory>
+pub(crate) fn search(alloc: Global, arcs: &[(i32, i32)]) -> Result<Option<Vec<i32>>, Memory>
     requires { Ascends arcs.now }
     ensures none { IfOk result (λ found. IsNone found → Acyclic (leads arcs.now)) }
     ensures cycle { IfOk result (λ found. IfSome found (λ nodes. IsLoop (leads arcs.now) nodes.items)) }
@@ -81,7 +86,8 @@ fn nodes_from(
 impl Descent {
     /// No node is seen.
     fn new(alloc: Global, count: usize) -> Result<Descent, Memory>
-        ensures { IfOk result (λ descent. (descent.marks.items ≡ replicate count Mark.Unseen) × (descent.path.items ≡ [])) }
+        ensures marks { IfOk result (λ descent. descent.marks.items ≡ replicate count Mark.Unseen) }
+        ensures path { IfOk result (λ descent. descent.path.items ≡ []) }
     {
         Ok(Descent {
             marks: vec![in alloc; Mark::Unseen; count]?,
@@ -97,7 +103,8 @@ impl Descent {
         ensures searching { IfOk result (λ found. IsNone found → Descends arcs.now self.new) }
         ensures empty { IfOk result (λ found. IsNone found → self.new.path.items ≡ []) }
         ensures settled { IfOk result (λ found. IsNone found → Settled arcs.now self.new.marks.items node) }
-        ensures stays { IfOk result (λ found. IsNone found → (other : ℤ) → Settled arcs.now self.old.marks.items other → Settled arcs.now self.new.marks.items other) }
+        ensures stays { IfOk result (λ found. IsNone found → (other : ℤ)
+            → Settled arcs.now self.old.marks.items other → Settled arcs.now self.new.marks.items other) }
         ensures found { IfOk result (λ found. IfSome found (λ place. IsFound arcs.now self.new.path.items place)) }
     {
         let Some(start) = start_of(arcs, node) else {
@@ -137,7 +144,8 @@ impl Descent {
         requires searching { Descends arcs.now self.old }
         requires path { 0 < length self.old.path.items }
         ensures searching { IfOk result (λ found. IsNone found → Descends arcs.now self.new) }
-        ensures falls { IfOk result (λ found. IsNone found → weight_of arcs.now self.new < weight_of arcs.now self.old) }
+        ensures falls { IfOk result
+            (λ found. IsNone found → weight_of arcs.now self.new < weight_of arcs.now self.old) }
         ensures seen { IfOk result (λ found. StaysSeen self.old.marks.items self.new.marks.items) }
         ensures found { IfOk result (λ found. IfSome found (λ place. IsFound arcs.now self.new.path.items place)) }
     {
@@ -176,8 +184,10 @@ impl Descent {
     /// Puts a node at the end of the path.
     fn open(&mut self, start: usize) -> Result<(), Memory>
         requires { start < length self.old.marks.items }
-        ensures marks { OnOk result (self.new.marks.items ≡ set self.old.marks.items start (Mark.OnPath (length self.old.path.items))) }
-        ensures path { OnOk result (self.new.path.items ≡ self.old.path.items ++ (record { start = start; at = start } ∷ [])) }
+        ensures marks { OnOk result
+            (self.new.marks.items ≡ set self.old.marks.items start (Mark.OnPath (length self.old.path.items))) }
+        ensures path { OnOk result
+            (self.new.path.items ≡ self.old.path.items ++ (record { start = start; at = start } ∷ [])) }
     {
         let place = self.path.len();
         self.path.push(Step { start, at: start })?;
@@ -201,7 +211,8 @@ impl Descent {
         requires path { length self.old.path.items ≡ last + 1 }
         requires at { step.at < usize.MAX }
         ensures marks { self.new.marks.items ≡ self.old.marks.items }
-        ensures path { self.new.path.items ≡ set self.old.path.items last (record { start = step.start; at = step.at + 1 }) }
+        ensures path { self.new.path.items
+            ≡ set self.old.path.items last (record { start = step.start; at = step.at + 1 }) }
     {
         self.path[last] = Step {
             start: step.start,

@@ -10,13 +10,14 @@ use Rattle.std.proofs.lemmas.List.Folds.{list_any-append}
 use Rattle.std.proofs.lemmas.List.Sorted.{IsPermutation-map, list_any-IsPermutation}
 use Rattle.asp_base.specs.Sets.{members}
 use Rattle.ground_program.specs.Draft.{external_rule, external_rules, heads_rule, value_of}
-use Rattle.ground_program.specs.Externals.{begins_with, rules_of_setting, rules_of_last}
-use Rattle.ground_program.specs.Facts.{RisesFrom}
-use Rattle.ground_program.specs.Occurrences.{atoms_of_head, into_rising, rising}
+use Rattle.ground_program.specs.private.Externals.{begins_with, rules_of_setting, rules_of_last}
+use Rattle.rising_numbers.specs.Rising.{RisesFrom}
+use Rattle.ground_program.specs.Occurrences.{atoms_of_head}
+use Rattle.rising_numbers.specs.Rising.{into_rising, rising}
 use Rattle.ground_program.specs.declared.builder.External.{External}
 use Rattle.ground_program.specs.declared.builder.External.TheVariants.{Release}
 use Rattle.ground_program.specs.declared.program.Rule.{Rule}
-use Rattle.ground_program.proofs.RisingLaws.{Ascends-rising, RisesFrom-rising, into-lower, into-member, members-rising, same_rising}
+use Rattle.rising_numbers.proofs.RisingLaws.{Ascends-rising, RisesFrom-rising, into-lower, into-member, members-rising, same_rising}
 use mathlib.Core.Path.{fun_ext}
 
 abbrev Setting : Type 0

@@ -12,23 +12,19 @@ use Rattle.ground_program.specs.declared.program.Head.TheVariants.{Nothing, One,
 use Rattle.ground_program.specs.declared.program.Body.{Body}
 use Rattle.ground_program.specs.declared.program.Body.TheVariants.{All, Sum}
 use Rattle.ground_program.specs.declared.program.Rule.{Rule}
-use Rattle.ground_program.proofs.Passing.{each-map}
+use Rattle.asp_base.proofs.Each.{each-member, each-weaker}
 
 body-weights : (atoms : List ℕ) (body : Body) → BodyFits (Among atoms) body → HasWeights body
 body-weights atoms (All lits) h = tt
-body-weights atoms (Sum bound items) h = each-map _ _ (λ item k. k.1.0) items h.2
+body-weights atoms (Sum bound items) h = each-weaker _ _ (λ item k. k.1.0) items h.2
 
 pub program-weighed : (P : Ground) → IsProgram P → Weighed P.rules
-program-weighed P f = each-map _ _ (λ rule h. body-weights P.atoms rule.body h.1) P.rules f.rules
-
-at_all : (P : ℕ → Type 0) (xs : List ℕ) (a : ℕ) → AllByRecursion P xs → members xs a ≡ true → P a
-at_all P [] a h m = absurd (true≢false (sym m))
-at_all P (x ∷ xs) a h m = ⊎_elim (λ e. subst P (eqb-true x a e) h.0) (λ e. at_all P xs a h.1 e) (or_cases _ _ m)
+program-weighed P f = each-weaker _ _ (λ rule h. body-weights P.atoms rule.body h.1) P.rules f.rules
 
 head-among : (atoms : List ℕ) (head : Head) (M : Set) (a : ℕ) → HeadFits (Among atoms) head → head_has head M a ≡ true → members atoms a ≡ true
 head-among atoms Nothing M a h e = absurd (true≢false (sym e))
 head-among atoms (One b) M a h e = subst (λ c. members atoms c ≡ true) (eqb-true b a e) h
-head-among atoms (Choice as_) M a h e = at_all (Among atoms) as_ a h.1 ((and_parts _ _ e).0)
+head-among atoms (Choice as_) M a h e = each-member (Among atoms) as_ a h.1 ((and_parts _ _ e).0)
 
 pub step-among : (atoms : List ℕ) (rules : List Rule) (M X : Set) → AllByRecursion (RuleFits (Among atoms)) rules → Within (step rules M X) (members atoms)
 step-among atoms [] M X f a e = absurd (true≢false (sym e))

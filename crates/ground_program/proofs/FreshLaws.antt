@@ -1,16 +1,13 @@
 -- The least number that is not taken: it is unique, `least_free` finds it, and new atoms rise.
-use Rattle.std.proofs.Common.{◌≡◌, refl, sym, ◌∙◌, ap, subst, ℕ, zero, suc, ◌+◌, ◌<◌, ◌≤◌, ◌==◌, true, false, ◌||◌, List, [], ◌∷◌, ◌++◌, length, ⊎_elim, eqb, length-append, arith}
+use Rattle.std.proofs.Common.{◌≡◌, refl, sym, ◌∙◌, ap, subst, ℕ, zero, suc, ◌+◌, ◌<◌, ◌≤◌, true, false, ◌||◌, List, [], ◌∷◌, ◌++◌, length, ⊎_elim, eqb, length-append, arith}
 use Rattle.std.specs.List.{list_any}
 use Rattle.std.proofs.lemmas.Bool.{or_cases, or_left, or_right, or_parts, true≢false, eq-eqb, eqb-true, cases_lt, cond_both, false_from_ne_true}
-use Rattle.std.proofs.lemmas.List.Folds.{list_any-append}
 use Rattle.std.proofs.lemmas.Map.Steps.{le-length_from_below}
+use Rattle.rising_numbers.proofs.RisingLaws.{members-append}
 use Rattle.asp_base.specs.Sets.{members}
 use Rattle.ground_program.specs.Fresh.{IsLeastFree, first_free, least_free, given_by, new_atom}
 
 -- ---- members of two lists
-
-pub members-append : (xs ys : List ℕ) (a : ℕ) → members (xs ++ ys) a ≡ (members xs a || members ys a)
-members-append xs ys a = list_any-append (λ x. x == a) xs ys
 
 flipped : (xs : List ℕ) (a : ℕ) → members xs a ≡ true → list_any (eqb a) xs ≡ true
 flipped [] a m = m

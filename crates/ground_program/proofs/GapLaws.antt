@@ -3,12 +3,12 @@ use Rattle.std.proofs.Common.{◌≡◌, refl, sym, ◌∙◌, ap, ap₂, subst,
 use Rattle.std.specs.List.{AllByRecursion, range_with_len}
 use Rattle.std.proofs.lemmas.Bool.{or_left, or_right, or_from, eq-eqb, ne_eqb, cases_lt, cases_eq, ltb-true, ltb-false, cond_both}
 use Rattle.asp_base.specs.Sets.{members}
-use Rattle.ground_program.specs.Facts.{RisesFrom}
+use Rattle.rising_numbers.specs.Rising.{RisesFrom}
 use Rattle.ground_program.specs.Fresh.{IsLeastFree}
-use Rattle.ground_program.specs.Gaps.{up_to, outside, inside_below, GapsFrom, EndsLast, LiesIn, AreGaps, gaps_of}
+use Rattle.ground_program.specs.private.Gaps.{up_to, outside, inside_below, GapsFrom, EndsLast, LiesIn, AreGaps, gaps_of}
 use Rattle.ground_program.specs.declared.fresh.Gap.{Gap}
 use Rattle.ground_program.specs.declared.fresh.Position.{Position}
-use Rattle.ground_program.proofs.FreshLaws.{members-append}
+use Rattle.rising_numbers.proofs.RisingLaws.{members-append}
 
 -- ---- consecutive numbers
 

@@ -3,6 +3,7 @@ use Rattle.std.proofs.Common.{◌≡◌, refl, sym, ◌∙◌, subst, ℕ, zero,
 use Rattle.std.specs.List.{AllByRecursion}
 use Rattle.std.proofs.lemmas.Bool.{and_parts, and_from, or_cases, or_left, or_right, true≢false, cases_lt}
 use Rattle.std.proofs.lemmas.Int.{ints}
+use Rattle.asp_base.proofs.Bools.{same_test}
 use Rattle.asp_base.specs.Literal.{Literal, Pos, Neg, literal_holds}
 use Rattle.asp_base.specs.Sets.{Set, none, union, Same, Within}
 use Rattle.ground_program.specs.Stable.{weight_of, holds, head_has, derives, step, rounds, grown}
@@ -10,7 +11,8 @@ use Rattle.ground_program.specs.declared.program.Body.{Body}
 use Rattle.ground_program.specs.declared.program.Body.TheVariants.{All, Sum}
 use Rattle.ground_program.specs.declared.program.Rule.{Rule}
 use Rattle.ground_program.specs.Closed.{HasWeights, Weighed, Closed}
-use Rattle.ground_program.proofs.Passing.{list_any-weaker, list_all-weaker, each, each-map, passing, passing_le-length, passing-same}
+use Rattle.ground_program.proofs.Passing.{list_any-weaker, list_all-weaker, passing, passing_le-length, passing-same}
+use Rattle.asp_base.proofs.Each.{each, each-weaker}
 
 pub literal_holds-mono : (l : Literal) (X Y M : Set) → Within X Y → literal_holds l X M ≡ true → literal_holds l Y M ≡ true
 literal_holds-mono (Pos a) X Y M h e = h a e
@@ -39,7 +41,7 @@ derives-mono a X Y M h rule w e =
     and_from _ _ k.0 (holds-mono rule.body X Y M w h k.1)
 
 pub step-mono : (rules : List Rule) (M X Y : Set) → Weighed rules → Within X Y → Within (step rules M X) (step rules M Y)
-step-mono rules M X Y w h a e = list_any-weaker _ _ rules (each-map _ _ (derives-mono a X Y M h) rules w) e
+step-mono rules M X Y w h a e = list_any-weaker _ _ rules (each-weaker _ _ (derives-mono a X Y M h) rules w) e
 
 pub rounds-more : (n : ℕ) (rules : List Rule) (M X : Set) → Within (rounds n rules M X) (rounds (suc n) rules M X)
 rounds-more n rules M X a e = or_left _ _ e
@@ -64,8 +66,8 @@ derives-back a X Y M rule h e =
 step-same : (rules : List Rule) (M X Y : Set) → Weighed rules → Within X Y → passing (fires Y M) rules ≤ passing (fires X M) rules → Within (step rules M Y) (step rules M X)
 step-same rules M X Y w h p a e =
     let back : AllByRecursion (λ rule. fires Y M rule ≡ true → fires X M rule ≡ true) rules =
-    passing-same (fires X M) (fires Y M) rules (each-map _ _ (λ rule v. holds-mono rule.body X Y M v h) rules w) p in
-    list_any-weaker _ _ rules (each-map _ _ (λ rule g. derives-back a X Y M rule g) rules back) e
+    passing-same (fires X M) (fires Y M) rules (each-weaker _ _ (λ rule v. holds-mono rule.body X Y M v h) rules w) p in
+    list_any-weaker _ _ rules (each-weaker _ _ (λ rule g. derives-back a X Y M rule g) rules back) e
 
 fires-none : (rules : List Rule) (M X : Set) → passing (fires X M) rules ≤ 0 → Closed rules M X
 fires-none [] M X p a e = absurd (true≢false (sym e))
@@ -111,14 +113,8 @@ rounds-derived (suc n) rules M w a e =
 pub grown-smallest : (rules : List Rule) (M X Y : Set) → Weighed rules → Within X Y → Closed rules M Y → Within (grown rules M X) Y
 grown-smallest rules M X Y w h c = rounds-within (length rules) rules M X Y w h c
 
-pub same_tests : (x y : Bool) → (x ≡ true → y ≡ true) → (y ≡ true → x ≡ true) → x ≡ y
-same_tests true true h k = refl
-same_tests true false h k = sym (h refl)
-same_tests false true h k = k refl
-same_tests false false h k = refl
-
 pub same_within : (X Y : Set) → Within X Y → Within Y X → Same X Y
-same_within X Y h k a = same_tests _ _ (h a) (k a)
+same_within X Y h k a = same_test _ _ (h a) (k a)
 
 -- the least model is a fixpoint of the step
 pub grown-fixpoint : (rules : List Rule) (M : Set) → Weighed rules → Same (step rules M (grown rules M none)) (grown rules M none)

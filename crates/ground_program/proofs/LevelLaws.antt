@@ -8,17 +8,13 @@ use Rattle.std.specs.declared.cmp.Ordering.TheVariants.{Less, Equal, Greater}
 use Rattle.std.proofs.lemmas.Bool.{or_cases, or_left, true≢false, cases_Bool, cond_both, cond-true, cond-false, false_from_ne_true}
 use Rattle.std.proofs.lemmas.Bool.Decides.{Decides-int_eq}
 use Rattle.std.proofs.lemmas.Int.{ints}
+use Rattle.asp_base.proofs.Bools.{or_swap, or_again}
+use Rattle.asp_base.proofs.IntegerTests.{lt-from_test, le-from_test}
 use Rattle.asp_base.specs.Literal.{Literal}
 use Rattle.ground_program.specs.Draft.{into_levels, levels_onto}
 use Rattle.ground_program.specs.Facts.{FallsFrom}
-use Rattle.ground_program.specs.Falling.{lowest, NoneRises}
+use Rattle.ground_program.specs.private.Falling.{lowest, NoneRises}
 use Rattle.ground_program.specs.declared.program.Level.{Level}
-
-lt-from_test : (a b : ℤ) → int_lt a b ≡ true → a <ℤ b
-lt-from_test a b e = grind (arith, ints)
-
-le-from_test : (a b : ℤ) → int_lt a b ≡ false → b ≤ℤ a
-le-from_test a b e = grind (arith, ints)
 
 eq-from_test : (a b : ℤ) → int_eq a b ≡ true → a ≡ b
 eq-from_test a b = (Decides-int_eq a b).0
@@ -85,21 +81,12 @@ no_items p (level ∷ levels) h = both (int_eq level.priority p) (has p levels) 
     both true v e k = absurd (true≢false e)
     both false v e k = k e
 
-swap_or : (p q r : Bool) → (p || (q || r)) ≡ (q || (p || r))
-swap_or true true r = refl
-swap_or true false r = refl
-swap_or false q r = refl
-
-again_or : (p q : Bool) → (p || q) ≡ (p || (p || q))
-again_or true q = refl
-again_or false q = refl
-
 has-into : (p : ℤ) (new : Level) (levels : List Level) → has p (into_levels new levels) ≡ (int_eq new.priority p || has p levels)
 has-into p new [] = refl
 has-into p new (level ∷ levels) = goes-into new level levels (λ made. has p made ≡ (int_eq new.priority p || has p (level ∷ levels)))
     (λ l. refl)
-    (λ e. again_or (int_eq level.priority p) (has p levels) ∙ ap (λ z. int_eq z p || has p (level ∷ levels)) e)
-    (λ l. ap (λ m. int_eq level.priority p || m) (has-into p new levels) ∙ swap_or (int_eq level.priority p) (int_eq new.priority p) (has p levels))
+    (λ e. sym (or_again (int_eq level.priority p) (has p levels)) ∙ ap (λ z. int_eq z p || has p (level ∷ levels)) e)
+    (λ l. ap (λ m. int_eq level.priority p || m) (has-into p new levels) ∙ or_swap (int_eq level.priority p) (int_eq new.priority p) (has p levels))
 
 -- one level before others that have nothing at its priority
 own-before : (p : ℤ) (new : Level) (levels : List Level) → (new.priority ≡ p → items_at p levels ≡ []) → items_at p (new ∷ levels) ≡ items_at p levels ++ own p new

@@ -1,3 +1,4 @@
+pub mod AtomsLaws
 pub mod BrokenLaws
 pub mod Compose
 pub mod ExternalLaws
@@ -10,7 +11,5 @@ pub mod Least
 pub mod LevelLaws
 pub mod Negative
 pub mod Passing
-pub mod PlaceLaws
 pub mod Plain
-pub mod RisingLaws
 mod Rows

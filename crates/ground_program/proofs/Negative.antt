@@ -1,9 +1,13 @@
 -- Without positive literals in bodies the least model is one step, so stable and supported say the same of rules.
 use Rattle.std.proofs.Common.{◌≡◌, refl, sym, ◌∙◌, ap, ap₂, subst, ℕ, zero, suc, ℤ, pos, ◌+ℤ◌, int_le, Bool, true, false, cond, ◌&&◌, ◌||◌, ◌↔◌, List, [], ◌∷◌, length}
 use Rattle.std.proofs.lemmas.Bool.{true≢false}
+use mathlib.Core.Path.{fun_ext}
 use Rattle.std.specs.List.{AllByRecursion}
 use Rattle.asp_base.specs.Literal.{Literal, Pos, Neg, literal_holds, all_hold}
+use Rattle.ground_program.specs.Facts.{IsProgram}
 use Rattle.ground_program.specs.Ground.{Ground}
+use Rattle.ground_program.proofs.FactLaws.{program-weighed}
+use Rattle.ground_program.proofs.Least.{grown-fixpoint}
 use Rattle.asp_base.specs.Sets.{Set, none, Same}
 use Rattle.ground_program.specs.Stable.{weight_of, holds, head_has, step, rounds, grown, joined, Supported, Stable}
 use Rattle.asp_base.specs.Walks.{Acyclic}
@@ -48,8 +52,15 @@ pub grown-apart : (rules : List Rule) (M : Set) → HasNegativeBodies rules → 
 grown-apart [] M h a = refl
 grown-apart (rule ∷ rules) M h a = rounds-apart (length rules) (rule ∷ rules) M h a
 
-pub Supported-from_Stable : (P : Ground) (M : Set) → HasNegativeBodies P.rules → Stable P M → Supported P M
-Supported-from_Stable P M h s = record { step_is = λ a. sym (grown-apart P.rules M h a) ∙ s.least_is a; keeps = s.keeps }
+-- The least model is a fixpoint of the step, and it is the set itself.
+pub Supported-from_Stable : (P : Ground) (M : Set) → IsProgram P → Stable P M → Supported P M
+Supported-from_Stable P M f s = record {
+  step_is = subst (λ X. Same (step P.rules M X) X) (fun_ext s.least_is) (grown-fixpoint P.rules M (program-weighed P f));
+  keeps = s.keeps;
+}
+
+supported-apart : (P : Ground) (M : Set) → HasNegativeBodies P.rules → Stable P M → Supported P M
+supported-apart P M h s = record { step_is = λ a. sym (grown-apart P.rules M h a) ∙ s.least_is a; keeps = s.keeps }
 
 pub Stable-from_Supported : (P : Ground) (M : Set) → HasNegativeBodies P.rules → Acyclic (joined P.edges M) → Supported P M → Stable P M
 Stable-from_Supported P M h c s = record { least_is = λ a. grown-apart P.rules M h a ∙ s.step_is a; keeps = s.keeps; acyclic = c }
@@ -60,4 +71,4 @@ Acyclic-no_edges M node (next ∷ rest) walk = true≢false (sym walk.0)
 
 pub Stable-iff_Supported : (P : Ground) (M : Set) → HasNegativeBodies P.rules → P.edges ≡ [] → Stable P M ↔ Supported P M
 Stable-iff_Supported P M h e =
-    (Supported-from_Stable P M h, Stable-from_Supported P M h (subst (λ edges. Acyclic (joined edges M)) (sym e) (Acyclic-no_edges M)))
+    (supported-apart P M h, Stable-from_Supported P M h (subst (λ edges. Acyclic (joined edges M)) (sym e) (Acyclic-no_edges M)))

@@ -5,7 +5,8 @@ use Rattle.std.specs.Ordering.{int_eq}
 use Rattle.asp_base.specs.Literal.{Literal}
 use Rattle.asp_base.specs.Sets.{members}
 use Rattle.ground_program.specs.Ground.{Ground}
-use Rattle.ground_program.specs.Occurrences.{atoms_of_literals, atoms_of_items, atoms_of_head, atoms_of_rule, rising}
+use Rattle.ground_program.specs.Occurrences.{atoms_of_literals, atoms_of_items, atoms_of_head, atoms_of_rule}
+use Rattle.rising_numbers.specs.Rising.{rising}
 use Rattle.ground_program.specs.declared.program.Head.TheVariants.{One, Choice}
 use Rattle.ground_program.specs.declared.program.Body.TheVariants.{All}
 use Rattle.ground_program.specs.declared.program.Rule.{Rule}
@@ -24,7 +25,8 @@ pub record Draft : Type 0 where
   pub externals : List (ℕ × External)
 
 abbrev pub empty_draft : Draft
-empty_draft = record { rules = []; required = []; edges = []; levels = []; shows = []; externals = [] }
+empty_draft =
+    record { rules = []; required = []; edges = []; levels = []; shows = []; externals = [] }
 
 abbrev pub with_rule : Rule → Draft → Draft
 with_rule rule d = record d { rules = d.rules ++ (rule ∷ []) }
@@ -54,12 +56,14 @@ atoms_of_draft d =
     ++ (flat_map (λ show. atoms_of_literals show.condition) d.shows
     ++ map (λ set. set.0) d.externals))))
 
--- into its place by falling priority; the items of one priority stand in the order in which they came
+-- into its place by falling priority; the items of one priority stand in the order in which they
+-- came
 abbrev pub into_levels : Level → List Level → List Level
 into_levels new [] = new ∷ []
 into_levels new (level ∷ levels) =
     cond (int_lt level.priority new.priority) (new ∷ level ∷ levels)
-    (cond (int_eq level.priority new.priority) (record { priority = level.priority; items = level.items ++ new.items } ∷ levels)
+    (cond (int_eq level.priority new.priority)
+    (record { priority = level.priority; items = level.items ++ new.items } ∷ levels)
     (level ∷ into_levels new levels))
 
 abbrev pub levels_onto : List Level → List Level → List Level
@@ -69,7 +73,8 @@ levels_onto levels (new ∷ news) = levels_onto (into_levels new levels) news
 -- the last value that an external atom was given
 abbrev pub value_of : ℕ → List (ℕ × External) → External
 value_of a [] = Release
-value_of a (set ∷ sets) = cond ((set.0 == a) && not (list_any (λ later. later.0 == a) sets)) set.1 (value_of a sets)
+value_of a (set ∷ sets) =
+    cond ((set.0 == a) && not (list_any (λ later. later.0 == a) sets)) set.1 (value_of a sets)
 
 -- A free atom may be chosen, a true one is a fact, any other heads no rule.
 abbrev pub external_rule : ℕ → External → List Rule
@@ -85,9 +90,11 @@ heads_rule rules a = list_any (λ rule. members (atoms_of_head rule.head) a) rul
 -- the rules of the external atoms that head no rule, by rising atom
 abbrev pub external_rules : List Rule → List (ℕ × External) → List Rule
 external_rules rules sets =
-    flat_map (λ a. cond (heads_rule rules a) [] (external_rule a (value_of a sets))) (rising (map (λ set. set.0) sets))
+    flat_map (λ a. cond (heads_rule rules a) [] (external_rule a (value_of a sets)))
+    (rising (map (λ set. set.0) sets))
 
--- Its atoms are those that were named, rising; levels stand by falling priority, and the rules of external atoms last.
+-- Its atoms are those that were named, rising; levels stand by falling priority, and the rules of
+-- external atoms last.
 abbrev pub program_of : Draft → Ground
 program_of d = record {
   atoms = rising (atoms_of_draft d);

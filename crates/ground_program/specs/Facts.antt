@@ -3,6 +3,7 @@ use Rattle.std.specs.Prelude.{◌≡◌, ℕ, ℤ, pos, neg_ℤ, ◌≤ℤ◌, �
 use Rattle.std.specs.List.{AllByRecursion}
 use Rattle.asp_base.specs.Literal.{Literal, atom_of}
 use Rattle.asp_base.specs.Sets.{members}
+use Rattle.rising_numbers.specs.Rising.{RisesFrom}
 use Rattle.ground_program.specs.Ground.{Ground}
 use Rattle.ground_program.specs.Draft.{Draft}
 use Rattle.ground_program.specs.declared.program.Head.{Head}
@@ -12,11 +13,6 @@ use Rattle.ground_program.specs.declared.program.Body.TheVariants.{All, Sum}
 use Rattle.ground_program.specs.declared.program.Rule.{Rule}
 use Rattle.ground_program.specs.declared.program.Level.{Level}
 use Rattle.ground_program.specs.declared.program.Show.{Show}
-
--- each number is above the one before it
-abbrev pub RisesFrom : ℕ → List ℕ → Type 0
-RisesFrom low [] = ⊤
-RisesFrom low (x ∷ xs) = (low < x) × RisesFrom x xs
 
 -- the numbers that priorities and nodes have: those of 32 bits
 abbrev pub IsPriority : ℤ → Type 0
@@ -47,7 +43,8 @@ FitsWeight w = (neg_ℤ (pos (2 ^ 31 - 1)) ≤ℤ w) × (w ≤ℤ pos (2 ^ 31 - 
 abbrev pub FitsBodyWeight : ℤ → Type 0
 FitsBodyWeight w = (pos 0 ≤ℤ w) × (w ≤ℤ pos (2 ^ 31 - 1))
 
--- What follows asks a fact of each atom that occurs: that it is an atom's number, or one of a program's atoms.
+-- What follows asks a fact of each atom that occurs: that it is an atom's number, or one of a
+-- program's atoms.
 module _ (Fits : ℕ → Type 0) where
   abbrev pub LiteralsFit : List Literal → Type 0
   LiteralsFit lits = AllByRecursion (λ l. Fits (atom_of l)) lits
@@ -59,7 +56,9 @@ module _ (Fits : ℕ → Type 0) where
 
   abbrev pub BodyFits : Body → Type 0
   BodyFits (All lits) = IsShort lits × LiteralsFit lits
-  BodyFits (Sum bound items) = FitsWeight bound × IsShort items × AllByRecursion (λ item. Fits (atom_of item.0) × FitsBodyWeight item.1) items
+  BodyFits (Sum bound items) =
+      FitsWeight bound × IsShort items
+      × AllByRecursion (λ item. Fits (atom_of item.0) × FitsBodyWeight item.1) items
 
   abbrev pub RuleFits : Rule → Type 0
   RuleFits rule = HeadFits rule.head × BodyFits rule.body

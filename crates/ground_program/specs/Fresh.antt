@@ -28,7 +28,8 @@ least_free numbers = first_free (length numbers) 1 numbers
 -- the numbers that so many calls give, in their order
 abbrev pub given_by : ℕ → List ℕ → List ℕ
 given_by zero atoms = []
-given_by (suc n) atoms = let before : List ℕ = given_by n atoms in before ++ (least_free (before ++ atoms) ∷ [])
+given_by (suc n) atoms =
+    let before : List ℕ = given_by n atoms in before ++ (least_free (before ++ atoms) ∷ [])
 
 -- the new atom with this index, from 0
 abbrev pub new_atom : List ℕ → ℕ → ℕ

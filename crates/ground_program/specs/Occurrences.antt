@@ -1,8 +1,8 @@
--- The atoms that occur in the parts of a program, and their rising list.
-use Rattle.std.specs.Prelude.{ℕ, suc, ℤ, cond, ◌==◌, nat_lt, List, [], ◌∷◌, ◌++◌, map}
-use Rattle.asp_base.specs.Literal.{Literal, atom_of}
+-- The atoms that occur in the parts of a program, and their variables.
+use Rattle.std.specs.Prelude.{ℕ, ℤ, List, [], ◌∷◌, ◌++◌, map}
+use Rattle.asp_base.specs.Literal.{Literal, Pos, Neg, atom_of}
 use Rattle.std.specs.List.{flat_map}
-use Rattle.asp_base.specs.Sets.{members}
+use Rattle.rising_numbers.specs.Rising.{place}
 use Rattle.ground_program.specs.Ground.{Ground}
 use Rattle.ground_program.specs.declared.program.Head.{Head}
 use Rattle.ground_program.specs.declared.program.Head.TheVariants.{Nothing, One, Choice}
@@ -28,20 +28,10 @@ atoms_of_body (Sum bound items) = atoms_of_items items
 abbrev pub atoms_of_rule : Rule → List ℕ
 atoms_of_rule rule = atoms_of_head rule.head ++ atoms_of_body rule.body
 
--- into its place in a rising list, once
-abbrev pub into_rising : ℕ → List ℕ → List ℕ
-into_rising a [] = a ∷ []
-into_rising a (x ∷ xs) = cond (nat_lt a x) (a ∷ x ∷ xs) (cond (a == x) (x ∷ xs) (x ∷ into_rising a xs))
-
--- the numbers of a list, rising, each once
-abbrev pub rising : List ℕ → List ℕ
-rising [] = []
-rising (a ∷ as_) = into_rising a (rising as_)
-
--- the place of a number in a list, from 1; 0 where it is not there
-abbrev pub place : List ℕ → ℕ → ℕ
-place [] a = 0
-place (x ∷ xs) a = cond (x == a) 1 (cond (members xs a) (suc (place xs a)) 0)
+-- The literal over variables: the variable of an atom is its place among a program's atoms, from 1.
+abbrev pub over_variables : List ℕ → Literal → Literal
+over_variables atoms (Pos a) = Pos (place atoms a)
+over_variables atoms (Neg a) = Neg (place atoms a)
 
 -- every atom that occurs in a part of a program
 abbrev pub atoms_of_parts : Ground → List ℕ

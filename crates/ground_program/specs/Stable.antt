@@ -1,10 +1,14 @@
--- Stable and supported models of a ground program with choice rules, weight rules and an acyclicity condition.
--- The comments name these sources by author and year:
---   P. Simons, I. Niemelä, T. Soininen. Extending and implementing the stable model semantics. Artificial Intelligence 138, 2002.
---   K. L. Clark. Negation as failure. In H. Gallaire and J. Minker (eds.), Logic and Data Bases, 1978.
---   M. Gebser, T. Janhunen, J. Rintanen. Answer set programming as SAT modulo acyclicity. ECAI 2014.
--- Where a definition has two sets, positive literals are read in X and negative ones in M, so that it speaks of the
--- reduct by M at X without writing the reduct down; with M for X it speaks of the program itself at M.
+-- Stable and supported models of a ground program with choice rules, weight rules and an acyclicity
+-- condition. The comments name these sources by author and year:
+--   P. Simons, I. Niemelä, T. Soininen. Extending and implementing the stable model semantics.
+--     Artificial Intelligence 138, 2002.
+--   K. L. Clark. Negation as failure. In H. Gallaire and J. Minker (eds.), Logic and Data Bases,
+--     1978.
+--   M. Gebser, T. Janhunen, J. Rintanen. Answer set programming as SAT modulo acyclicity. ECAI
+--     2014.
+-- Where a definition has two sets, positive literals are read in X and negative ones in M, so that
+-- it speaks of the reduct by M at X without writing the reduct down; with M for X it speaks of the
+-- program itself at M.
 use Rattle.std.specs.Prelude.{◌≡◌, ℕ, zero, suc, ℤ, pos, ◌+ℤ◌, int_le, Bool, true, false, cond, not, ◌&&◌, ◌==◌, List, [], ◌∷◌, length, map}
 use Rattle.std.specs.List.{list_any, filter}
 use Rattle.std.specs.Ordering.{int_eq}
@@ -22,17 +26,20 @@ use Rattle.ground_program.specs.declared.program.Edge.{Edge}
 use Rattle.ground_program.specs.declared.program.Level.{Level}
 use Rattle.ground_program.specs.declared.program.Show.{Show}
 
--- The sum of the weights of the items whose literal holds (Simons et al. 2002). An item that stands there twice counts twice.
+-- The sum of the weights of the items whose literal holds (Simons et al. 2002). An item that stands
+-- there twice counts twice.
 abbrev pub weight_of : List (Literal × ℤ) → Set → Set → ℤ
 weight_of [] X M = pos 0
 weight_of (item ∷ items) X M = cond (literal_holds item.0 X M) item.1 (pos 0) +ℤ weight_of items X M
 
--- A body of literals holds where all of them do, one of weights where their sum reaches the bound (Simons et al. 2002).
+-- A body of literals holds where all of them do, one of weights where their sum reaches the bound
+-- (Simons et al. 2002).
 abbrev pub holds : Body → Set → Set → Bool
 holds (All lits) X M = all_hold lits X M
 holds (Sum bound items) X M = int_le bound (weight_of items X M)
 
--- The atoms that a head may derive. The reduct keeps of a choice only what is in M (Simons et al. 2002).
+-- The atoms that a head may derive. The reduct keeps of a choice only what is in M (Simons et al.
+-- 2002).
 abbrev pub head_has : Head → Set → ℕ → Bool
 head_has Nothing M a = false
 head_has (One b) M a = b == a
@@ -42,7 +49,8 @@ head_has (Choice bs) M a = members bs a && M a
 abbrev pub derives : Rule → Set → Set → ℕ → Bool
 derives rule M X a = head_has rule.head M a && holds rule.body X M
 
--- what the rules of the reduct by M derive from X at once, the one-step operator (Simons et al. 2002)
+-- what the rules of the reduct by M derive from X at once, the one-step operator (Simons et al.
+-- 2002)
 abbrev pub step : List Rule → Set → Set → Set
 step rules M X a = list_any (λ rule. derives rule M X a) rules
 
@@ -51,8 +59,9 @@ abbrev pub rounds : ℕ → List Rule → Set → Set → Set
 rounds zero rules M X = X
 rounds (suc n) rules M X = union (rounds n rules M X) (step rules M (rounds n rules M X))
 
--- The deductive closure of X (Simons et al. 2002). As many rounds as there are rules suffice where no weight is negative,
--- since a round that derives anything new has a rule whose body did not hold in the round before.
+-- The deductive closure of X (Simons et al. 2002). As many rounds as there are rules suffice where
+-- no weight is negative, since a round that derives anything new has a rule whose body did not hold
+-- in the round before.
 abbrev pub grown : List Rule → Set → Set → Set
 grown rules M X = rounds (length rules) rules M X
 
@@ -66,7 +75,8 @@ is_headless Nothing = true
 is_headless (One a) = false
 is_headless (Choice as_) = false
 
--- M keeps the constraints: no headless rule's body holds, and every required literal does (Simons et al. 2002).
+-- M keeps the constraints: no headless rule's body holds, and every required literal does (Simons
+-- et al. 2002).
 pub record Keeps (P : Ground) (M : Set) : Type 0 where
   pub headless : list_any (λ rule. is_headless rule.head && holds rule.body M M) P.rules ≡ false
   pub required : all_hold P.required M M ≡ true
@@ -84,13 +94,14 @@ pub record Founded (P : Ground) (M : Set) : Type 0 where
   pub least_is : Same (least P M) M
   pub keeps : Keeps P M
 
--- A model of the completion (Clark 1978), taken to choice and weight rules: M has just the atoms that the rules derive
--- from M at once.
+-- A model of the completion (Clark 1978), taken to choice and weight rules: M has just the atoms
+-- that the rules derive from M at once.
 pub record Supported (P : Ground) (M : Set) : Type 0 where
   pub step_is : Same (step P.rules M M) M
   pub keeps : Keeps P M
 
--- A stable model: founded (Simons et al. 2002), and the graph that M gives has no cycle (Gebser et al. 2014).
+-- A stable model: founded (Simons et al. 2002), and the graph that M gives has no cycle (Gebser et
+-- al. 2014).
 pub record Stable (P : Ground) (M : Set) : Type 0 where
   pub least_is : Same (least P M) M
   pub keeps : Keeps P M
@@ -111,7 +122,8 @@ first_ones (name ∷ names) = name ∷ filter (λ other. not (bytes_eq name othe
 
 -- the names of the shows whose condition holds, each once
 abbrev pub names_of : List Show → Set → List (List ℕ)
-names_of shows M = first_ones (map (λ show. show.name) (filter (λ show. all_hold show.condition M M) shows))
+names_of shows M =
+    first_ones (map (λ show. show.name) (filter (λ show. all_hold show.condition M M) shows))
 
 -- the names that a set shows
 abbrev pub visible : Ground → Set → List (List ℕ)

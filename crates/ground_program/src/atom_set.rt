@@ -1,29 +1,27 @@
+//! Sets of atoms.
+
 ghost use Rattle.std.specs.Prelude.{◌≡◌, IfOk};
 ghost use Rattle.std.specs.List.Sorted.{IsStrictlyIncreasing};
 ghost use Rattle.asp_base.specs.Sets.{members};
-ghost use Rattle.ground_program.specs.Occurrences.{rising};
+ghost use Rattle.rising_numbers.specs.Rising.{rising};
 
-use crate::lists::AtomList;
-use crate::places::stands_by_number;
-use asp_base::Memory;
+use asp_base::{Interpretation, Memory};
+use rising_numbers::RisingNumbers;
 use std::alloc::Global;
 use std::marker::Model;
 
 /// Atoms in ascending order, each once.
 #[derive(Debug, Drop)]
 pub struct AtomSet {
-    items: Vec<u32>,
+    numbers: RisingNumbers,
 }
 
 impl Model for AtomSet {
     ghost use Rattle.std.specs.Prelude.{List, ℕ};
-    ghost use Rattle.std.specs.List.Sorted.{IsStrictlyIncreasing};
 
     ghost Value = { List ℕ };
 
-    ghost view = { λ s. s.items.items };
-
-    ghost invariant = { λ s. IsStrictlyIncreasing s.items.items };
+    ghost view = { λ s. s.numbers };
 }
 
 impl AtomSet {
@@ -31,22 +29,23 @@ impl AtomSet {
     pub fn of(alloc: Global, atoms: &[u32]) -> Result<AtomSet, Memory>
         ensures { IfOk result (λ set. set ≡ rising atoms.now) }
     {
-        Ok(AtomSet::of_vec(atoms.to_vec(alloc)?))
+        AtomSet::of_vec(alloc, atoms.to_vec(alloc)?)
     }
 
-    /// The set of the given atoms, which may stand in any order and repeat; it keeps their memory.
-    pub fn of_vec(atoms: Vec<u32>) -> AtomSet
-        ensures { result ≡ rising atoms.items }
+    /// The set of the given atoms, which may stand in any order and repeat. It keeps their memory.
+    pub fn of_vec(alloc: Global, atoms: Vec<u32>) -> Result<AtomSet, Memory>
+        ensures { IfOk result (λ set. set ≡ rising atoms.items) }
     {
-        AtomSet {
-            items: ascending(atoms),
-        }
+        Ok(AtomSet {
+            numbers: RisingNumbers::of_vec(alloc, atoms)?,
+        })
     }
 
+    /// Whether the atom is in the set, in constant time where the numbers of the set lie close together.
     pub fn contains(&self, atom: u32) -> bool
         ensures { result ≡ members self.now atom }
     {
-        stands_by_number(self.items.as_slice(), atom) || self.items.binary_search(&atom).is_ok()
+        self.numbers.contains(atom)
     }
 
     /// The atoms in ascending order.
@@ -54,23 +53,17 @@ impl AtomSet {
         ensures atoms { result.now ≡ self.now }
         ensures ascending { IsStrictlyIncreasing self.now }
     {
-        self.items.as_slice()
-    }
-
-    pub fn into_list(self) -> AtomList
-        ensures { result ≡ self }
-    {
-        AtomList::from_vec(self.items)
+        self.numbers.as_slice()
     }
 }
 
-/// The numbers in ascending order, each once.
-fn ascending(mut list: Vec<u32>) -> Vec<u32>
-    ensures is { result.items ≡ rising list.items }
-    ensures ascending { IsStrictlyIncreasing result.items }
-{
-    list.sort_unstable();
-    list.dedup();
-    list.shrink_to_fit();
-    list
+/// The set makes its atoms true.
+impl Interpretation for AtomSet {
+    ghost use Rattle.asp_base.specs.Sets.{members};
+
+    ghost truth = { λ set. members set };
+
+    fn is_true(&self, atom: u32) -> bool {
+        self.contains(atom)
+    }
 }

@@ -1,9 +1,12 @@
+//! Programs are made part by part. What is added is kept in order, so that adding costs no more than a
+//! push; levels are merged, and externals and atoms settled, in `finish`.
+
 ghost use Rattle.std.specs.Prelude.{◌≡◌, [], ◌∷◌, IfOk, OnOk, OnErr};
 ghost use Rattle.asp_base.specs.Literal.{atom_of};
 ghost use Rattle.ground_program.specs.Draft.{empty_draft, with_rule, with_required, with_edge, with_level, with_show, with_external, atoms_of_draft, program_of};
 ghost use Rattle.ground_program.specs.Facts.{IsAtom, HeadFits, BodyFits, ConditionFits, LevelFits, ShowFits};
 
-use crate::atom_set::AtomSet;
+use crate::atoms::Atoms;
 use crate::externals::push_external_rules;
 use crate::gather::{
     push_edges, push_externals, push_levels, push_literals, push_rules, push_shows,
@@ -41,7 +44,7 @@ pub struct ProgramBuilder {
 impl Model for ProgramBuilder {
     ghost use Rattle.ground_program.specs.Draft.{Draft};
     ghost use Rattle.ground_program.specs.Facts.{IsDraft};
-    ghost use Rattle.ground_program.specs.InsideDraft.{draft_of};
+    ghost use Rattle.ground_program.specs.private.InsideDraft.{draft_of};
 
     ghost Value = { Draft };
 
@@ -57,11 +60,11 @@ impl ProgramBuilder {
     {
         ProgramBuilder {
             alloc,
-            rules: RuleList::from_vec(Vec::new(alloc)),
+            rules: RuleList::new(alloc),
             required: LitList::new(alloc),
-            edges: EdgeList::from_vec(Vec::new(alloc)),
-            levels: LevelList::from_vec(Vec::new(alloc)),
-            shows: ShowList::from_vec(Vec::new(alloc)),
+            edges: EdgeList::new(alloc),
+            levels: LevelList::new(alloc),
+            shows: ShowList::new(alloc),
             externals: Vec::new(alloc),
         }
     }
@@ -131,11 +134,12 @@ impl ProgramBuilder {
         ensures { IfOk result (λ p. p ≡ program_of self) }
     {
         let named = self.named_atoms()?;
+        let atoms = Atoms::of_vec(self.alloc, named)?;
         let mut rules = self.rules;
         push_external_rules(self.alloc, &mut rules, self.externals)?;
         let levels = merge_levels(self.alloc, self.levels.into_vec())?;
         Ok(Program {
-            atoms: AtomSet::of_vec(named).into_list(),
+            atoms,
             rules,
             required: self.required,
             edges: self.edges,

@@ -4,7 +4,7 @@ ghost use Rattle.std.specs.Prelude.{◌≡◌, ◌++◌, ◌≤◌, drop, length
 ghost use Rattle.std.specs.List.Sorted.{IsPermutation, IsSortedByKey, IsStableByKey};
 ghost use Rattle.std.specs.Ordering.{nat_cmp};
 ghost use Rattle.ground_program.specs.Draft.{external_rule, external_rules};
-ghost use Rattle.ground_program.specs.Externals.{begins_with, rules_of_setting, rules_of_last};
+ghost use Rattle.ground_program.specs.private.Externals.{begins_with, rules_of_setting, rules_of_last};
 
 use crate::atom_set::AtomSet;
 use crate::builder::External;
@@ -29,7 +29,8 @@ pub fn push_external_rules(
     let mut heads = Vec::new(alloc);
     push_heads(&mut heads, rules.as_slice())?;
     sort_settings(&mut externals)?;
-    push_last_settings(alloc, rules, &AtomSet::of_vec(heads), externals.as_slice())
+    let heads = AtomSet::of_vec(alloc, heads)?;
+    push_last_settings(alloc, rules, &heads, externals.as_slice())
 }
 
 /// By rising atom; the settings of one atom keep their order.

@@ -1,8 +1,11 @@
+//! New atoms. The gaps between a program's atoms are kept as a list, in order, with the position of the
+//! next number, so that each call takes constant time and the list takes 8 bytes for each gap.
+
 ghost use Rattle.std.specs.Prelude.{◌≡◌, ◌≤◌, ◌<◌, ◌+◌, ◌^◌, [], ◌∷◌, ◌++◌, length, IfOk};
 ghost use Rattle.std.specs.List.{AllByRecursion};
-ghost use Rattle.ground_program.specs.Facts.{RisesFrom};
+ghost use Rattle.rising_numbers.specs.Rising.{RisesFrom};
 ghost use Rattle.ground_program.specs.Fresh.{IsLeastFree, taken, least_free};
-ghost use Rattle.ground_program.specs.Gaps.{AreGaps, gaps_of, inside_below};
+ghost use Rattle.ground_program.specs.private.Gaps.{AreGaps, gaps_of, inside_below};
 
 use crate::program::Program;
 use asp_base::Memory;
@@ -23,8 +26,8 @@ struct Position {
     number: u32,
 }
 
-/// Gives numbers for new atoms, in constant time each: the least positive number that is no atom of a program and was not
-/// given before. It keeps the gaps between the program's atoms.
+/// Gives numbers for new atoms, in constant time each: the least positive number that is no atom of a program and was
+/// not given before. It keeps the gaps between the program's atoms.
 #[derive(Drop)]
 pub struct FreshAtoms {
     gaps: Vec<Gap>,
@@ -33,8 +36,8 @@ pub struct FreshAtoms {
 
 impl Model for FreshAtoms {
     ghost use Rattle.ground_program.specs.Fresh.{Supply};
-    ghost use Rattle.ground_program.specs.Gaps.{AreGaps};
-    ghost use Rattle.ground_program.specs.InsideFresh.{supply_of};
+    ghost use Rattle.ground_program.specs.private.Gaps.{AreGaps};
+    ghost use Rattle.ground_program.specs.private.InsideFresh.{supply_of};
 
     ghost Value = { Supply };
 
@@ -56,8 +59,8 @@ impl FreshAtoms {
         })
     }
 
-    /// The least positive number that is no atom of the program and was not given before. The program's atoms and the numbers
-    /// that were given must together be fewer than 2^30.
+    /// The least positive number that is no atom of the program and was not given before. The program's atoms and the
+    /// numbers that were given must together be fewer than 2^30.
     pub fn next(&mut self) -> u32
         requires { length self.old.atoms + length self.old.given < 2 ^ 30 }
         ensures least { IsLeastFree (taken self.old) result }

@@ -71,7 +71,8 @@ pub fn push_rules(out: &mut Vec<u32>, rules: &[Rule]) -> Result<(), Memory>
 }
 
 pub fn push_edges(out: &mut Vec<u32>, edges: &[Edge]) -> Result<(), Memory>
-    ensures { OnOk result (out.new.items ≡ out.old.items ++ flat_map (λ edge. atoms_of_literals edge.condition) edges.now) }
+    ensures { OnOk result (out.new.items ≡ out.old.items
+        ++ flat_map (λ edge. atoms_of_literals edge.condition) edges.now) }
 {
     for edge in edges {
         push_literals(out, edge.condition.as_slice())?;
@@ -89,7 +90,8 @@ pub fn push_levels(out: &mut Vec<u32>, levels: &[Level]) -> Result<(), Memory>
 }
 
 pub fn push_shows(out: &mut Vec<u32>, shows: &[Show]) -> Result<(), Memory>
-    ensures { OnOk result (out.new.items ≡ out.old.items ++ flat_map (λ show. atoms_of_literals show.condition) shows.now) }
+    ensures { OnOk result (out.new.items ≡ out.old.items
+        ++ flat_map (λ show. atoms_of_literals show.condition) shows.now) }
 {
     for show in shows {
         push_literals(out, show.condition.as_slice())?;

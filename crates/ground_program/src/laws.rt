@@ -30,10 +30,10 @@ pub fn stable_model_has_atoms_of_program()
     ensures { (P : Ground) (M : Set) → IsProgram P → Stable P M → Within M (members P.atoms) }
 {}
 
-/// Where no body has a positive literal, each stable model is supported, that is, a model of the
-/// completion. Where there are no edges either, a set is a stable model exactly if it is supported.
-pub fn stable_is_supported_without_positive_literals()
-    ensures supported { (P : Ground) (M : Set) → HasNegativeBodies P.rules → Stable P M → Supported P M }
+/// A stable model is supported, that is, a model of the completion. Where no body has a positive literal and there are
+/// no edges, a set is a stable model exactly if it is supported.
+pub fn stable_models_are_supported()
+    ensures supported { (P : Ground) (M : Set) → IsProgram P → Stable P M → Supported P M }
     ensures same { (P : Ground) (M : Set) → HasNegativeBodies P.rules → P.edges ≡ [] → Stable P M ↔ Supported P M }
 {}
 
@@ -41,15 +41,20 @@ pub fn stable_is_supported_without_positive_literals()
 /// reduct by a set that breaks no rule lies within the set. Where the set lies within the least model too, has the
 /// required literals and gives a graph without cycle, it is a stable model. A stable model breaks no rule.
 pub fn stable_if_nothing_is_broken()
-    ensures within { (P : Ground) (M : Set) → IsProgram P → list_any (λ rule. breaks rule M) P.rules ≡ false → Within (least P M) M }
-    ensures stable { (P : Ground) (M : Set) → IsProgram P → list_any (λ rule. breaks rule M) P.rules ≡ false → Within M (least P M) → all_hold P.required M M ≡ true → Acyclic (joined P.edges M) → Stable P M }
-    ensures unbroken { (P : Ground) (M : Set) → IsProgram P → Stable P M → list_any (λ rule. breaks rule M) P.rules ≡ false }
+    ensures within { (P : Ground) (M : Set) → IsProgram P → list_any (λ rule. breaks rule M) P.rules ≡ false
+        → Within (least P M) M }
+    ensures stable { (P : Ground) (M : Set) → IsProgram P → list_any (λ rule. breaks rule M) P.rules ≡ false
+        → Within M (least P M) → all_hold P.required M M ≡ true → Acyclic (joined P.edges M) → Stable P M }
+    ensures unbroken { (P : Ground) (M : Set) → IsProgram P → Stable P M
+        → list_any (λ rule. breaks rule M) P.rules ≡ false }
 {}
 
 /// Where a second program stands for a first one and a third one for the second, the third one stands for the first.
 pub fn faithful_programs_compose()
-    ensures covers { (P N Q : Ground) → Within (members P.atoms) (members N.atoms) → Covers P N → Covers N Q → Covers P Q }
-    ensures faithful { (P N Q : Ground) → Within (members P.atoms) (members N.atoms) → Faithful P N → Faithful N Q → Faithful P Q }
+    ensures covers { (P N Q : Ground) → Within (members P.atoms) (members N.atoms)
+        → Covers P N → Covers N Q → Covers P Q }
+    ensures faithful { (P N Q : Ground) → Within (members P.atoms) (members N.atoms)
+        → Faithful P N → Faithful N Q → Faithful P Q }
 {}
 
 /// Each new atom is the least positive number that is no atom and was not given before. So new atoms rise, none is an

@@ -6,7 +6,7 @@ ghost use Rattle.std.specs.List.Sorted.{IsPermutation, IsSortedByKey, IsStableBy
 ghost use Rattle.std.specs.Ordering.{int_cmp};
 ghost use Rattle.ground_program.specs.Draft.{into_levels, levels_onto};
 ghost use Rattle.ground_program.specs.Facts.{FallsFrom};
-ghost use Rattle.ground_program.specs.Falling.{NoneRises, lowest};
+ghost use Rattle.ground_program.specs.private.Falling.{NoneRises, lowest};
 
 use crate::program::Level;
 use asp_base::Memory;
@@ -57,7 +57,10 @@ fn add_behind(levels: &mut Vec<Level>, level: Level) -> Result<(), Memory>
 }
 
 fn extend_level(level: &mut Level, more: Level) -> Result<(), Memory>
-    ensures { OnOk result (level.new ≡ record { priority = level.old.priority; items = level.old.items ++ more.items }) }
+    ensures { OnOk result (level.new ≡ record {
+      priority = level.old.priority;
+      items = level.old.items ++ more.items;
+    }) }
 {
     level.items.append(more.items.as_slice())
 }

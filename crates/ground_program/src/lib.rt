@@ -2,6 +2,7 @@
 #![tactic(auto)]
 
 mod atom_set;
+mod atoms;
 mod builder;
 mod externals;
 mod fresh;
@@ -11,19 +12,16 @@ mod levels;
 mod lists;
 mod measure;
 mod occurring;
-mod places;
 mod program;
 mod reading;
-#[cfg(test)]
-mod tests;
 
 pub use atom_set::AtomSet;
+pub use atoms::{Atoms, variable};
 pub use builder::{External, ProgramBuilder};
 pub use fresh::FreshAtoms;
 pub use lists::{AtomList, CostList, ItemList, LitList};
 pub use measure::size;
 pub use occurring::occurring_atoms;
-pub use places::{place_among, variable};
 pub use program::{
     Body, Edge, EdgeList, Head, Level, LevelList, Program, Rule, RuleList, Show, ShowList,
 };

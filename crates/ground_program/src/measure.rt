@@ -1,3 +1,5 @@
+//! The size of a program.
+
 ghost use Rattle.std.specs.Prelude.{◌≡◌, ◌+◌, ◌^◌, min, length};
 ghost use Rattle.std.specs.List.{sum_by};
 ghost use Rattle.ground_program.specs.Size.{choices, entries, rule_size, size};

@@ -1,7 +1,8 @@
 //! The atoms that occur in the parts of a program.
 
 ghost use Rattle.std.specs.Prelude.{◌≡◌, IfOk};
-ghost use Rattle.ground_program.specs.Occurrences.{rising, atoms_of_parts};
+ghost use Rattle.ground_program.specs.Occurrences.{atoms_of_parts};
+ghost use Rattle.rising_numbers.specs.Rising.{rising};
 
 use crate::atom_set::AtomSet;
 use crate::gather::{push_edges, push_levels, push_literals, push_rules, push_shows};
@@ -13,7 +14,7 @@ use std::alloc::Global;
 pub fn occurring_atoms(alloc: Global, program: &Program) -> Result<AtomSet, Memory>
     ensures { IfOk result (λ set. set ≡ rising (atoms_of_parts program.now)) }
 {
-    Ok(AtomSet::of_vec(occurrences(alloc, program)?))
+    AtomSet::of_vec(alloc, occurrences(alloc, program)?)
 }
 
 /// The atoms in any order, with repeats.

@@ -1,6 +1,8 @@
+//! What is wrong with a program's text.
+
 ghost use Rattle.std.specs.Prelude.{◌≤◌, length};
 
-use asp_base::Memory;
+use asp_base::{LineFault, Refusal};
 
 /// What is wrong with a program's text.
 #[derive(Clone, Copy, Debug, PartialEq, Eq)]
@@ -51,20 +53,16 @@ impl ReadKind {
     }
 }
 
-/// The first fault of a text with the number of its line, from 1, or want of memory.
-#[derive(Clone, Copy, Debug, PartialEq, Eq)]
-pub enum ReadRefusal {
-    At { line: u64, kind: ReadKind },
-    Memory,
-}
+/// The first fault of a program's text with the number of its line, from 1, or want of memory.
+pub type ReadRefusal = Refusal<ReadKind>;
 
-impl From<Memory> for ReadRefusal {
+impl From<ReadKind> for LineFault<ReadKind> {
     ghost use Rattle.std.specs.Prelude.{◌≡◌};
-    ghost use Rattle.ground_program.specs.declared.reading.ReadRefusal.TheVariants as refusals;
+    ghost use Rattle.asp_base.specs.declared.faults.LineFault.TheVariants as faults;
 
-    ghost from_gives = { λ _ e. e ≡ refusals.Memory };
+    ghost from_gives = { λ kind e. e ≡ faults.Kind kind };
 
-    fn from(_: Memory) -> ReadRefusal {
-        ReadRefusal::Memory
+    fn from(kind: ReadKind) -> LineFault<ReadKind> {
+        LineFault::Kind(kind)
     }
 }

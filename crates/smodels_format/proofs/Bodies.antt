@@ -1,14 +1,17 @@
 -- Literals that are read one by one are the atoms' literals.
 use Rattle.std.proofs.Common.{◌≡◌, ◌∙◌, ℕ, zero, suc, List, [], ◌∷◌, ◌++◌, map, Ok, Err, refl, sym, ap}
 use Rattle.asp_base.specs.Literal.{Literal}
-use Rattle.statement_fields.specs.Fields.{Reading, ◌>>=◌, atom, many, Faults}
-use Rattle.statement_fields.specs.declared.fault.FieldFault.{FieldFault}
-use Rattle.statement_fields.specs.declared.fault.FieldFault.TheVariants as faults
-use Rattle.smodels_format.specs.Smodels.{literals}
-use Rattle.smodels_format.specs.Steps.{signed, signed_atom, onto}
+use Rattle.asp_base.specs.Faults.{◌>>=◌}
+use Rattle.statement_fields.specs.Fields.{Reading, atom, many, Faults}
+use Rattle.asp_base.specs.declared.faults.LineFault.{LineFault}
+use Rattle.asp_base.specs.declared.faults.LineFault.TheVariants as faults
+use Rattle.statement_fields.specs.private.Onto.{onto}
+use Rattle.statement_fields.proofs.SoFar.{onto-none}
+use Rattle.ground_program.specs.declared.reading.ReadKind.{ReadKind}
+use Rattle.smodels_format.specs.Read.{literals}
+use Rattle.smodels_format.specs.private.Steps.{signed, signed_atom}
 use Rattle.smodels_format.specs.declared.sign.Sign.{Sign}
 use Rattle.smodels_format.specs.declared.sign.Sign.TheVariants.{Negative, Positive}
-use Rattle.smodels_format.proofs.Pushing.{onto-none}
 
 -- the literals of atoms that were read
 abbrev all_signed : Sign → Reading (List ℕ) → Reading (List Literal)
@@ -52,7 +55,7 @@ module _ (n p : ℕ) (line : List ℕ) where
       go (Ok negs) = ends negs.0 (many atom p negs.1) ∙ ap (onto (map (signed Negative) negs.0)) (sym (many-signed Positive p negs.1))
       go (Err kind) = refl
 
-  pub literals-fails : (fault : FieldFault) → Faults (many (signed_atom Negative) n line) fault → Faults (literals (n, p) line) fault
+  pub literals-fails : (fault : LineFault ReadKind) → Faults (many (signed_atom Negative) n line) fault → Faults (literals (n, p) line) fault
   literals-fails (faults.Kind kind) h = literals-by ∙ ap (λ r. r >>= then_positive p) h
   literals-fails faults.Memory h = tt
 
@@ -63,6 +66,6 @@ module _ (n p : ℕ) (line : List ℕ) where
     pub literals-are : (lits : List Literal) (rest : List ℕ) → onto negs (many (signed_atom Positive) p left) ≡ Ok (lits, rest) → literals (n, p) line ≡ Ok (lits, rest)
     literals-are lits rest e = behind-negative ∙ e
 
-    pub positive-fails : (fault : FieldFault) → Faults (many (signed_atom Positive) p left) fault → Faults (literals (n, p) line) fault
+    pub positive-fails : (fault : LineFault ReadKind) → Faults (many (signed_atom Positive) p left) fault → Faults (literals (n, p) line) fault
     positive-fails (faults.Kind kind) h = behind-negative ∙ ap (onto negs) h
     positive-fails faults.Memory h = tt

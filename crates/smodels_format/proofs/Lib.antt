@@ -11,9 +11,9 @@ pub mod LoweredNear
 pub mod LoweredRules
 pub mod LoweredStable
 pub mod LoweredStep
-mod Names
+pub mod Names
+pub mod Parted
 mod Parts
-mod Pushing
 mod Rows
 mod Starts
 pub mod TextFields
@@ -26,6 +26,5 @@ mod TextRows
 pub mod TextSteps
 mod Weighing
 pub mod WrittenBodies
-pub mod WrittenLines
 pub mod WrittenSteps
 pub mod WrittenText

@@ -1,4 +1,5 @@
 -- The new atoms of a lowered program: what their rules derive, and that each stands for one body.
+use Rattle.asp_base.proofs.Bools.{or_false}
 use Rattle.std.proofs.Common.{◌≡◌, refl, sym, ◌∙◌, ap, ap₂, ℕ, suc, ◌+◌, ◌<◌, ◌≤◌, ◌==◌, Bool, true, false, cond, ◌&&◌, ◌||◌, List, [], ◌∷◌, arith}
 use Rattle.std.proofs.lemmas.Bool.{or_from, and_left, eq-eqb, ne_eqb}
 use Rattle.asp_base.specs.Sets.{Set}
@@ -61,10 +62,6 @@ module _ (new : ℕ → ℕ) where
 
 -- ---- each new atom has one body
 
-or_none : (b : Bool) → (b || false) ≡ b
-or_none true = refl
-or_none false = refl
-
 pub after_rules-from : (n : ℕ) (rules : List Rule) → n ≤ after_rules n rules
 after_rules-from n [] = omega arith
 after_rules-from n (rule ∷ rules) = let h : n + rule_draws rule.head rule.body ≤ after_rules (n + rule_draws rule.head rule.body) rules = after_rules-from (n + rule_draws rule.head rule.body) rules in omega arith
@@ -110,7 +107,7 @@ module _ (new : ℕ → ℕ) (rises : Rises new) (X M : Set) where
   module _ (Z : Set) where
     own : (n : ℕ) (h v r : Bool) → Z (new n) ≡ ((((new n == new n) && h) || v) || r) → v ≡ false → r ≡ false → Z (new n) ≡ h
     own n h v r e p q =
-        e ∙ (ap₂ (λ x y. (x || v) || y) (ap (λ x. x && h) (eq-eqb (new n) (new n) refl)) q ∙ (or_none (h || v) ∙ (ap (λ x. h || x) p ∙ or_none h)))
+        e ∙ (ap₂ (λ x y. (x || v) || y) (ap (λ x. x && h) (eq-eqb (new n) (new n) refl)) q ∙ (or_false (h || v) ∙ (ap (λ x. h || x) p ∙ or_false h)))
 
     rule-named : (n : ℕ) (head : Head) (body : Body) (v r : Bool) → Z (new n) ≡ ((rule_value new n head body X M (new n) || v) || r) → (n < n + rule_draws head body → (v ≡ false) × (r ≡ false)) → RuleNamed new Z X M n head body
     rule-named n Nothing body v r e f = tt
@@ -141,6 +138,6 @@ module _ (new : ℕ → ℕ) (rises : Rises new) (X M : Set) where
             Whether b (ShowsNamed new Z X M n shows) ((Z (new n) ≡ H) × ShowsNamed new Z X M (suc n) shows)
         go true h p q = p h
         go false h p q = (
-          own n H (shows_value new (suc n) shows X M (new n)) false (h n (omega arith) ∙ sym (or_none _)) (shows-below n (suc n) shows (omega arith)) refl,
+          own n H (shows_value new (suc n) shows X M (new n)) false (h n (omega arith) ∙ sym (or_false _)) (shows-below n (suc n) shows (omega arith)) refl,
           q (λ k l. h k (omega arith) ∙ ap (λ x. x || shows_value new (suc n) shows X M (new k)) (and_left _ _ (earlier k n (omega arith)))),
         )

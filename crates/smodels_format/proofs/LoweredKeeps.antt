@@ -1,6 +1,6 @@
 -- The constraints of a lowered program: no rule is without head, and the required literals are those of the program and, where it
 -- has a rule without head, that the atom of these rules is false.
-use Rattle.std.proofs.Common.{◌≡◌, refl, ◌∙◌, ap, ap₂, ℕ, suc, ◌+◌, Bool, true, false, cond, not, ◌&&◌, List, [], ◌∷◌, ◌++◌, map, filter, reverse}
+use Rattle.std.proofs.Common.{◌≡◌, refl, sym, ◌∙◌, ap, ap₂, ℕ, suc, ◌+◌, Bool, true, false, cond, not, ◌&&◌, List, [], ◌∷◌, ◌++◌, map, filter, reverse}
 use Rattle.std.specs.List.{list_any, list_all}
 use Rattle.std.proofs.lemmas.Bool.{or_from}
 use Rattle.std.proofs.lemmas.List.Folds.{list_any-append, list_all-append}
@@ -17,7 +17,9 @@ use Rattle.ground_program.specs.declared.program.Rule.{Rule}
 use Rattle.ground_program.specs.declared.program.Show.{Show}
 use Rattle.smodels_format.specs.Lowering.{body_in_order, items_negatives_first, rule_draws, after_rules, rule_lowered, rules_lowered, show_rules, symbols_from, is_single, has_headless, first_index, atoms_required}
 use Rattle.smodels_format.specs.Parts.{levels_from, show_of}
-use Rattle.smodels_format.proofs.LoweredBodies.{list_all-parts}
+use Rattle.std.proofs.lemmas.List.{map-append}
+use Rattle.asp_base.proofs.Bools.{and_true, and_swap, and_assoc}
+use Rattle.smodels_format.proofs.Parted.{list_all-parts, negatives-are, positives-are}
 use Rattle.smodels_format.proofs.LoweredRules.{all_rules}
 
 -- Q is the lowered program of P, with these new atoms
@@ -30,32 +32,8 @@ pub record IsLowered (new : ℕ → ℕ) (P Q : Ground) : Type 0 where
 
 -- ---- required literals
 
-positives : (lits : List Literal) → map (λ a. Pos a) (atoms_required is_positive lits) ≡ filter is_positive lits
-positives [] = refl
-positives (Pos a ∷ lits) = ap (λ ls. Pos a ∷ ls) (positives lits)
-positives (Neg a ∷ lits) = positives lits
-
-negatives : (lits : List Literal) → map (λ a. Neg a) (atoms_required (λ l. not (is_positive l)) lits) ≡ filter (λ l. not (is_positive l)) lits
-negatives [] = refl
-negatives (Pos a ∷ lits) = negatives lits
-negatives (Neg a ∷ lits) = ap (λ ls. Neg a ∷ ls) (negatives lits)
-
-negatives-append : (as_ bs : List ℕ) → map (λ a. Neg a) (as_ ++ bs) ≡ map (λ a. Neg a) as_ ++ map (λ a. Neg a) bs
-negatives-append [] bs = refl
-negatives-append (a ∷ as_) bs = ap (λ ls. Neg a ∷ ls) (negatives-append as_ bs)
-
-regroup : (p n t : Bool) → (p && (n && t)) ≡ ((n && p) && t)
-regroup true true t = refl
-regroup true false t = refl
-regroup false true t = refl
-regroup false false t = refl
-
 refuted-holds : (b : Bool) (a : ℕ) (X M : Set) → all_hold (map (λ c. Neg c) (cond b (a ∷ []) [])) X M ≡ cond b (not (M a)) true
-refuted-holds true a X M = go (not (M a))
-  where
-    go : (b : Bool) → (b && true) ≡ b
-    go true = refl
-    go false = refl
+refuted-holds true a X M = and_true (not (M a))
 refuted-holds false a X M = refl
 
 module _ (new : ℕ → ℕ) (P Q : Ground) (q : IsLowered new P Q) where
@@ -66,12 +44,12 @@ module _ (new : ℕ → ℕ) (P Q : Ground) (q : IsLowered new P Q) where
       let minus : List Literal = filter (λ l. not (is_positive l)) P.required in
       let last : List Literal = map (λ c. Neg c) (cond (has_headless P) (new 0 ∷ []) []) in
       let list_is : Q.required ≡ plus ++ (minus ++ last) =
-      q.required ∙ ap₂ ◌++◌ (positives P.required) (negatives-append (atoms_required (λ l. not (is_positive l)) P.required) (cond (has_headless P) (new 0 ∷ []) []) ∙ ap (λ ls. ls ++ last) (negatives P.required)) in
+      q.required ∙ ap₂ ◌++◌ (positives-are P.required) (map-append (λ a. Neg a) (atoms_required (λ l. not (is_positive l)) P.required) (cond (has_headless P) (new 0 ∷ []) []) ∙ ap (λ ls. ls ++ last) (negatives-are P.required)) in
       ap (list_all h) list_is
       ∙ (list_all-append h plus (minus ++ last)
       ∙ (ap (λ b. list_all h plus && b) (list_all-append h minus last)
-      ∙ (regroup (list_all h plus) (list_all h minus) (list_all h last)
-      ∙ ap₂ ◌&&◌ (list_all-parts h is_positive P.required) (refuted-holds (has_headless P) (new 0) X M))))
+      ∙ (and_swap (list_all h plus) (list_all h minus) (list_all h last) ∙ sym (and_assoc (list_all h minus) (list_all h plus) (list_all h last))
+      ∙ ap₂ ◌&&◌ (list_all-parts is_positive h P.required) (refuted-holds (has_headless P) (new 0) X M))))
 
 -- ---- heads
 

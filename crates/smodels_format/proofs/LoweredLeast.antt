@@ -7,7 +7,8 @@ use Rattle.ground_program.specs.Facts.{IsProgram}
 use Rattle.ground_program.specs.Ground.{Ground}
 use Rattle.ground_program.specs.Stable.{step, grown, least}
 use Rattle.ground_program.proofs.FactLaws.{program-weighed, step-among}
-use Rattle.ground_program.proofs.Least.{grown-smallest, grown-fixpoint, same_tests}
+use Rattle.ground_program.proofs.Least.{grown-smallest, grown-fixpoint}
+use Rattle.asp_base.proofs.Bools.{same_test}
 use Rattle.smodels_format.proofs.LoweredNear.{Near, Near-sym, step-near}
 use Rattle.smodels_format.proofs.LoweredFresh.{Rises}
 use Rattle.smodels_format.proofs.LoweredRules.{all_rules, fresh_part, Extends, all_rules-weighed, all-rules-named, step-outside, step-inside}
@@ -69,6 +70,6 @@ module _ (new : ℕ → ℕ) (rises : Rises new) (P : Ground) (fresh : (k : ℕ)
     least-extends =
         let Y : Set = grown (all_rules new P) N none in
         let near : Near P.atoms Y (least P M) = λ a within.
-        same_tests _ _ (λ e. sym ((extension-extends new P (least P M) M).near a within) ∙ whole-within a e)
+        same_test _ _ (λ e. sym ((extension-extends new P (least P M) M).near a within) ∙ whole-within a e)
         (λ e. (and_parts _ _ (grown-smallest P.rules M none (cut P.atoms Y) (program-weighed P f) (nothing_in _) whole-closed a e)).1) in
         record { near = near; outside = λ a out. sym (whole-fix a) ∙ step-outside new rises P fresh f Y (least P M) N M near m a out }

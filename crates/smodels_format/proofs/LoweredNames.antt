@@ -1,5 +1,6 @@
 -- A lowered program shows the names that the program shows.
-use Rattle.std.proofs.Common.{◌≡◌, refl, sym, ◌∙◌, ap, ap₂, ℕ, suc, Bool, true, false, cond, ◌&&◌, List, [], ◌∷◌, map, filter}
+use Rattle.asp_base.proofs.Bools.{and_true}
+use Rattle.std.proofs.Common.{◌≡◌, refl, sym, ◌∙◌, ap, ap₂, ℕ, suc, Bool, true, false, cond, List, [], ◌∷◌, map, filter}
 use Rattle.std.specs.List.{AllByRecursion}
 use Rattle.std.proofs.lemmas.Bool.{true≢false}
 use Rattle.asp_base.specs.Literal.{Literal, Pos, Neg, all_hold}
@@ -22,10 +23,6 @@ single-is (Pos a ∷ l ∷ lits) e = absurd (true≢false (sym e))
 name-cond : (b : Bool) (show : Show) (shows : List Show) → map (λ s. s.name) (cond b (show ∷ shows) shows) ≡ cond b (show.name ∷ map (λ s. s.name) shows) (map (λ s. s.name) shows)
 name-cond true show shows = refl
 name-cond false show shows = refl
-
-and_true : (b : Bool) → (b && true) ≡ b
-and_true true = refl
-and_true false = refl
 
 -- the shows whose condition holds
 abbrev shown : List Show → Set → List Show

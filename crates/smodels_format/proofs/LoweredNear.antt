@@ -1,7 +1,8 @@
 -- What a program says of sets depends on its own atoms alone.
-use Rattle.std.proofs.Common.{◌≡◌, refl, sym, ◌∙◌, ap, ap₂, subst, ℕ, ℤ, pos, ◌+ℤ◌, int_le, Bool, true, false, cond, not, ◌&&◌, ◌||◌, List, [], ◌∷◌, ⊎_elim}
+use Rattle.asp_base.proofs.Each.{each-member}
+use Rattle.std.proofs.Common.{◌≡◌, refl, sym, ◌∙◌, ap, ap₂, subst, ℕ, ℤ, pos, ◌+ℤ◌, int_le, Bool, true, false, cond, not, ◌&&◌, ◌||◌, List, [], ◌∷◌}
 use Rattle.std.specs.List.{list_any, AllByRecursion}
-use Rattle.std.proofs.lemmas.Bool.{and_parts, or_cases, true≢false, eqb-true}
+use Rattle.std.proofs.lemmas.Bool.{and_parts, true≢false, eqb-true}
 use Rattle.asp_base.specs.Literal.{Literal, Pos, Neg, atom_of, literal_holds, all_hold}
 use Rattle.asp_base.specs.Sets.{Set, members, Same}
 use Rattle.ground_program.specs.Facts.{Among, LiteralsFit, HeadFits, BodyFits, RuleFits}
@@ -27,10 +28,6 @@ and-same : (b p q : Bool) → (b ≡ true → p ≡ q) → (b && p) ≡ (b && q)
 and-same true p q h = h refl
 and-same false p q h = refl
 
-each_at : (P : ℕ → Type 0) (xs : List ℕ) (a : ℕ) → AllByRecursion P xs → members xs a ≡ true → P a
-each_at P [] a h e = absurd (true≢false (sym e))
-each_at P (y ∷ ys) a h e = ⊎_elim (λ k. subst P (eqb-true y a k) h.0) (λ k. each_at P ys a h.1 k) (or_cases _ _ e)
-
 module _ (atoms : List ℕ) (X Y M N : Set) (x : Near atoms X Y) (m : Near atoms M N) where
   literal-near : (l : Literal) → Among atoms (atom_of l) → literal_holds l X M ≡ literal_holds l Y N
   literal-near (Pos a) h = x a h
@@ -51,7 +48,7 @@ module _ (atoms : List ℕ) (X Y M N : Set) (x : Near atoms X Y) (m : Near atoms
   pub head-near : (head : Head) (a : ℕ) → HeadFits (Among atoms) head → head_has head M a ≡ head_has head N a
   head-near Nothing a h = refl
   head-near (One b) a h = refl
-  head-near (Choice as_) a h = and-same (members as_ a) (M a) (N a) (λ e. m a (each_at (Among atoms) as_ a h.1 e))
+  head-near (Choice as_) a h = and-same (members as_ a) (M a) (N a) (λ e. m a (each-member (Among atoms) as_ a h.1 e))
 
   pub step-near : (rules : List Rule) → AllByRecursion (RuleFits (Among atoms)) rules → Same (step rules M X) (step rules N Y)
   step-near [] h a = refl
@@ -68,7 +65,7 @@ head-outside atoms head M a h f = go (head_has head M a) refl
     among : (head : Head) → HeadFits (Among atoms) head → head_has head M a ≡ true → members atoms a ≡ true
     among Nothing h e = absurd (true≢false (sym e))
     among (One b) h e = subst (λ c. members atoms c ≡ true) (eqb-true b a e) h
-    among (Choice as_) h e = each_at (Among atoms) as_ a h.1 ((and_parts _ _ e).0)
+    among (Choice as_) h e = each-member (Among atoms) as_ a h.1 ((and_parts _ _ e).0)
 
     go : (b : Bool) → head_has head M a ≡ b → b ≡ false
     go true e = absurd (true≢false (sym (among head h e) ∙ f))

@@ -1,4 +1,6 @@
 -- All rules of a lowered program: they derive the program's atoms as its rules do, and each new atom where its body holds.
+use Rattle.asp_base.proofs.Bools.{or_false}
+use Rattle.asp_base.proofs.Each.{each-append}
 use Rattle.std.proofs.Common.{◌≡◌, refl, ◌∙◌, ap, ap₂, ℕ, suc, ◌+◌, ◌≤◌, ◌==◌, Bool, true, false, cond, ◌&&◌, ◌||◌, List, [], ◌∷◌, ◌++◌, arith}
 use Rattle.std.specs.List.{list_any}
 use Rattle.std.proofs.lemmas.Bool.{and_left, and_right, or_parts, or_from}
@@ -15,7 +17,7 @@ use Rattle.ground_program.specs.declared.program.Rule.{Rule}
 use Rattle.ground_program.specs.declared.program.Show.{Show}
 use Rattle.ground_program.proofs.FactLaws.{program-weighed}
 use Rattle.smodels_format.specs.Lowering.{body_in_order, rule_draws, after_rules, rule_lowered, rules_lowered, show_rules, is_single, has_headless, first_index}
-use Rattle.smodels_format.proofs.LoweredBodies.{weights-in_order, each-append}
+use Rattle.smodels_format.proofs.LoweredBodies.{weights-in_order}
 use Rattle.smodels_format.proofs.LoweredNear.{Near, headless_holds}
 use Rattle.smodels_format.proofs.LoweredFresh.{Rises, after_rules-from, earlier, rules_value, shows_value, RulesNamed, ShowsNamed, rules-above, shows-below, rules-named, shows-named}
 use Rattle.smodels_format.proofs.LoweredStep.{step-append, rules-outside, shows-derive, shows-nothing, rules-inside}
@@ -95,10 +97,6 @@ module _ (new : ℕ → ℕ) (rises : Rises new) (P : Ground) (fresh : (k : ℕ)
   -- ---- one step
 
   module _ (Z X N M : Set) (x : Near P.atoms Z X) (m : Near P.atoms N M) where
-    or_none : (b : Bool) → (b || false) ≡ b
-    or_none true = refl
-    or_none false = refl
-
     pub step-outside : (a : ℕ) → members P.atoms a ≡ false → step (all_rules new P) N Z a ≡ fresh_part new P X M a
     step-outside a out =
         step-append (rules_lowered new (new 0) (first_index P) P.rules) (show_rules new (after_rules (first_index P) P.rules) P.shows) N Z a
@@ -111,4 +109,4 @@ module _ (new : ℕ → ℕ) (rises : Rises new) (P : Ground) (fresh : (k : ℕ)
         ∙ (ap₂ ◌||◌ (rules-inside new (new 0) P.atoms fresh Z X N M x m a within (fresh 0) (first_index P) P.rules f.rules (program-weighed P f) named)
         (shows-derive new (new 0) P.atoms fresh Z X N M x m (after_rules (first_index P) P.rules) P.shows a f.shows
         ∙ shows-nothing new (new 0) P.atoms fresh Z X N M x m a within (after_rules (first_index P) P.rules) P.shows)
-        ∙ or_none _)
+        ∙ or_false _)

@@ -1,5 +1,6 @@
 -- What the rules of a lowered program derive at once: of the program's atoms what its rules derive, and each new atom where its body
 -- holds.
+use Rattle.asp_base.proofs.Bools.{and_true, or_swap}
 use Rattle.std.proofs.Common.{◌≡◌, refl, sym, ◌∙◌, ap, ap₂, ℕ, suc, ◌+◌, ◌==◌, Bool, true, false, cond, ◌&&◌, ◌||◌, List, [], ◌∷◌, ◌++◌}
 use Rattle.std.specs.List.{AllByRecursion}
 use Rattle.std.proofs.lemmas.Bool.{or_from, and_left, true≢false, ne_eqb}
@@ -22,20 +23,10 @@ use Rattle.smodels_format.proofs.LoweredFresh.{rule_value, rules_value, shows_va
 pub step-append : (rules more : List Rule) (M X : Set) (a : ℕ) → step (rules ++ more) M X a ≡ (step rules M X a || step more M X a)
 step-append rules more M X a = list_any-append (λ rule. derives rule M X a) rules more
 
--- tests on variables
 spread : (r b h v : Bool) → ((r && b) || ((r && h) || v)) ≡ ((r && (b || h)) || v)
 spread true true h v = refl
 spread true false h v = refl
 spread false b h v = refl
-
-or_swap : (x q v : Bool) → (x || (q || v)) ≡ (q || (x || v))
-or_swap true true v = refl
-or_swap true false v = refl
-or_swap false q v = refl
-
-and_true : (b : Bool) → (b && true) ≡ b
-and_true true = refl
-and_true false = refl
 
 -- an atom of a list is none that the list has not
 pub apart : (atoms : List ℕ) (a b : ℕ) → members atoms a ≡ true → members atoms b ≡ false → (b == a) ≡ false

@@ -3,7 +3,7 @@ use Rattle.std.proofs.Common.{◌≡◌, refl, ℕ, List, [], ◌∷◌, Result,
 use Rattle.std.specs.Prelude.{pos}
 use Rattle.asp_base.specs.Literal.{Literal, Pos, Neg}
 use Rattle.ground_program.specs.Ground.{Ground}
-use Rattle.ground_program.specs.Reading.{Fault}
+use Rattle.asp_base.specs.Faults.{Fault}
 use Rattle.ground_program.specs.declared.program.Head.TheVariants.{Nothing, One, Choice}
 use Rattle.ground_program.specs.declared.program.Body.TheVariants.{All, Sum}
 use Rattle.ground_program.specs.declared.program.Rule.{Rule}
@@ -11,7 +11,7 @@ use Rattle.ground_program.specs.declared.program.Level.{Level}
 use Rattle.ground_program.specs.declared.program.Show.{Show}
 use Rattle.ground_program.specs.declared.reading.ReadKind.{ReadKind}
 use Rattle.ground_program.specs.declared.reading.ReadKind.TheVariants as kinds
-use Rattle.smodels_format.specs.Smodels.{smodels_of}
+use Rattle.smodels_format.specs.Read.{smodels_of}
 
 abbrev of_rules : List ℕ → List Rule → Ground
 of_rules atoms rules = record { atoms = atoms; rules = rules; required = []; edges = []; levels = []; shows = [] }
@@ -31,7 +31,7 @@ rule a lits = record { head = One a; body = All lits }
 abbrev shown : ℕ → List ℕ → Show
 shown a name = record { name = name; condition = Pos a ∷ [] }
 
-abbrev at : ℕ → ReadKind → Result Ground Fault
+abbrev at : ℕ → ReadKind → Result Ground (Fault ReadKind)
 at line kind = Err (record { line = line; kind = kind })
 
 -- a choice, a rule with a bound, and their names

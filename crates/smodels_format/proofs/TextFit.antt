@@ -1,16 +1,15 @@
 -- The parts of a program that can be written are those that smodels text can say, so its text is read as the lowered program.
-use Rattle.std.proofs.Common.{◌≡◌, refl, sym, subst, ℕ, suc, ◌+◌, ◌^◌, ◌<◌, ◌≤◌, ℤ, pos, negsuc, int_le, Bool, true, false, cond, not, ⊎_elim, List, [], ◌∷◌, map, filter, reverse, length, Ok, arith}
+use Rattle.smodels_format.proofs.WrittenSteps.{after_rules-few, size-many}
+use Rattle.std.proofs.Common.{◌≡◌, refl, sym, ℕ, suc, ◌+◌, ◌^◌, ◌<◌, ◌≤◌, ℤ, pos, negsuc, int_le, Bool, true, false, cond, not, List, [], ◌∷◌, map, filter, reverse, length, Ok, arith}
 use mathlib.Core.List.{reverse_aux}
-use Rattle.std.specs.List.{AllByRecursion, list_all, sum_by}
-use Rattle.std.proofs.lemmas.Bool.{and_parts, or_cases, eqb-true, true≢false}
+use Rattle.std.specs.List.{AllByRecursion, list_all}
+use Rattle.std.proofs.lemmas.Bool.{and_parts, true≢false}
 use Rattle.std.proofs.lemmas.Int.{ints}
-use Rattle.std.proofs.lemmas.List.Sums.{sum_by-cons}
 use Rattle.asp_base.specs.Literal.{Literal, Pos, Neg, atom_of, is_positive}
-use Rattle.asp_base.specs.Sets.{members}
 use Rattle.ground_program.specs.Facts.{IsAtom, Among, IsShort, FitsWeight, FitsBodyWeight, LiteralsFit, HeadFits, BodyFits, RuleFits, LevelFits, ShowFits, IsProgram}
 use Rattle.ground_program.specs.Fresh.{new_atom}
 use Rattle.ground_program.specs.Ground.{Ground}
-use Rattle.ground_program.specs.Size.{rule_size, size}
+use Rattle.ground_program.specs.Size.{size}
 use Rattle.ground_program.specs.declared.program.Head.{Head}
 use Rattle.ground_program.specs.declared.program.Head.TheVariants.{Nothing, One, Choice}
 use Rattle.ground_program.specs.declared.program.Body.{Body}
@@ -19,45 +18,23 @@ use Rattle.ground_program.specs.declared.program.Rule.{Rule}
 use Rattle.ground_program.specs.declared.program.Level.{Level}
 use Rattle.ground_program.specs.declared.program.Show.{Show}
 use Rattle.ground_program.proofs.FreshLaws.{new_atom-least, new_atom-most}
-use Rattle.ground_program.proofs.Passing.{each-map}
-use Rattle.ground_program.proofs.RisingLaws.{members-above}
+use Rattle.asp_base.proofs.Each.{each-append, each-map, each-member, each-weaker}
+use Rattle.rising_numbers.proofs.RisingLaws.{members-above}
 use Rattle.smodels_format.specs.Lowering.{body_in_order, body_draws, rule_draws, after_rules, is_single, single_atom, choice_lowered, rule_lowered, rules_lowered, symbols_from, show_rules, items_negatives_first, has_headless, first_index, parts_of, lowered}
-use Rattle.smodels_format.specs.Smodels.{smodels_of}
-use Rattle.smodels_format.specs.SmodelsText.{smodels_text}
+use Rattle.smodels_format.specs.Read.{smodels_of}
+use Rattle.smodels_format.specs.Written.{smodels_text}
 use Rattle.smodels_format.specs.Writable.{has_none, is_writable_name, is_writable}
-use Rattle.smodels_format.proofs.LoweredBodies.{each-append}
 use Rattle.smodels_format.proofs.LoweredFresh.{after_rules-from}
-use Rattle.smodels_format.proofs.TextOrder.{each-mapped, atoms-fit, literals-in_order, single-in_order, items-in_order, bound-fits}
+use Rattle.smodels_format.proofs.TextOrder.{atoms-fit, literals-in_order, single-in_order, items-in_order, bound-fits}
 use Rattle.smodels_format.proofs.TextParts.{ItemsInOrder, HasLine, SymbolFits, PartsFit}
 use Rattle.smodels_format.proofs.TextRoundTrip.{parts-read}
 
 -- ---- a program's atoms are numbers of atoms
 
-each-member : (P : ℕ → Type 0) (xs : List ℕ) → AllByRecursion P xs → (a : ℕ) → members xs a ≡ true → P a
-each-member P [] h a m = absurd (true≢false (sym m))
-each-member P (x ∷ xs) h a m = ⊎_elim (λ e. subst P (eqb-true x a e) h.0) (λ e. each-member P xs h.1 a e) (or_cases _ _ m)
-
 atom-from_among : (P : Ground) → IsProgram P → (a : ℕ) → Among P.atoms a → IsAtom a
-atom-from_among P f a m = (members-above 0 P.atoms a f.atoms_rise m, each-member (λ x. x ≤ 2 ^ 30) P.atoms f.atoms_fit a m)
+atom-from_among P f a m = (members-above 0 P.atoms a f.atoms_rise m, each-member (λ x. x ≤ 2 ^ 30) P.atoms a f.atoms_fit m)
 
 -- ---- how many there are
-
-sum_by-most : {X : Type 0} (f : X → ℕ) → ((x : X) → 1 ≤ f x) → (xs : List X) → length xs ≤ sum_by f xs
-sum_by-most f h [] = omega arith
-sum_by-most f h (x ∷ xs) = let here : 1 ≤ f x = h x in let rest : length xs ≤ sum_by f xs = sum_by-most f h xs in omega (arith, sum_by-cons f x xs)
-
-few-draws : (head : Head) (body : Body) → rule_draws head body ≤ 1
-few-draws Nothing body = omega arith
-few-draws (One a) body = omega arith
-few-draws (Choice as_) (All lits) = omega arith
-few-draws (Choice as_) (Sum bound items) = omega arith
-
-after_rules-most : (n : ℕ) (rules : List Rule) → after_rules n rules ≤ n + length rules
-after_rules-most n [] = omega arith
-after_rules-most n (rule ∷ rules) =
-    let few : rule_draws rule.head rule.body ≤ 1 = few-draws rule.head rule.body in
-    let rest : after_rules (n + rule_draws rule.head rule.body) rules ≤ (n + rule_draws rule.head rule.body) + length rules = after_rules-most (n + rule_draws rule.head rule.body) rules in
-    omega arith
 
 first-most : (b : Bool) → cond b 1 0 ≤ 1
 first-most true = omega arith
@@ -70,7 +47,7 @@ Line rule = HasLine rule.head rule.body
 
 module _ (new : ℕ → ℕ) (most : ℕ) (new_fit : (k : ℕ) → k < most → IsAtom (new k)) (Fits : ℕ → Type 0) (atom : (a : ℕ) → Fits a → IsAtom a) where
   literals-are_atoms : (lits : List Literal) → LiteralsFit Fits lits → LiteralsFit IsAtom lits
-  literals-are_atoms lits h = each-map (λ l. Fits (atom_of l)) (λ l. IsAtom (atom_of l)) (λ l k. atom (atom_of l) k) lits h
+  literals-are_atoms lits h = each-weaker (λ l. Fits (atom_of l)) (λ l. IsAtom (atom_of l)) (λ l k. atom (atom_of l) k) lits h
 
   one-line : (a : ℕ) (body : Body) → IsAtom a → BodyFits Fits body → HasLine (One a) (body_in_order body)
   one-line a (All lits) h k = (h, literals-in_order lits k.0 (literals-are_atoms lits k.1))
@@ -78,15 +55,15 @@ module _ (new : ℕ → ℕ) (most : ℕ) (new_fit : (k : ℕ) → k < most → 
     h,
     bound-fits bound k.0,
     items-in_order items k.1
-        (each-map (λ item. Fits (atom_of item.0) × FitsBodyWeight item.1) (λ item. IsAtom (atom_of item.0)) (λ item f. atom (atom_of item.0) f.0) items k.2)
-        (each-map (λ item. Fits (atom_of item.0) × FitsBodyWeight item.1) (λ item. FitsBodyWeight item.1) (λ item f. f.1) items k.2),
+        (each-weaker (λ item. Fits (atom_of item.0) × FitsBodyWeight item.1) (λ item. IsAtom (atom_of item.0)) (λ item f. atom (atom_of item.0) f.0) items k.2)
+        (each-weaker (λ item. Fits (atom_of item.0) × FitsBodyWeight item.1) (λ item. FitsBodyWeight item.1) (λ item f. f.1) items k.2),
   )
 
   choice-lines : (n : ℕ) (as_ : List ℕ) (body : Body) → n + body_draws body ≤ most → HeadFits Fits (Choice as_) → BodyFits Fits body → AllByRecursion Line (choice_lowered new (new 0) n as_ body)
-  choice-lines n as_ (All lits) l h k = ((h.0, each-map Fits IsAtom atom as_ h.1, literals-in_order lits k.0 (literals-are_atoms lits k.1)), tt)
+  choice-lines n as_ (All lits) l h k = ((h.0, each-weaker Fits IsAtom atom as_ h.1, literals-in_order lits k.0 (literals-are_atoms lits k.1)), tt)
   choice-lines n as_ (Sum bound items) l h k =
       let here : IsAtom (new n) = new_fit n (omega arith) in
-      (one-line (new n) (Sum bound items) here k, ((h.0, each-map Fits IsAtom atom as_ h.1, single-in_order (new n) here), tt))
+      (one-line (new n) (Sum bound items) here k, ((h.0, each-weaker Fits IsAtom atom as_ h.1, single-in_order (new n) here), tt))
 
   rule-lines : (n : ℕ) (head : Head) (body : Body) → IsAtom (new 0) → n + rule_draws head body ≤ most → HeadFits Fits head → BodyFits Fits body → AllByRecursion Line (rule_lowered new (new 0) n head body)
   rule-lines n Nothing body refuted l h k = (one-line (new 0) body refuted k, tt)
@@ -145,8 +122,8 @@ module _ (Fits : ℕ → Type 0) (atom : (a : ℕ) → Fits a → IsAtom a) wher
   level-fits : (level : Level) → IsShort level.items → LevelFits Fits level → list_all (λ item. int_le (pos 0) item.1) level.items ≡ true → ItemsInOrder (items_negatives_first level.items)
   level-fits level short h e =
       items-in_order level.items short
-      (each-map (λ item. Fits (atom_of item.0) × FitsWeight item.1) (λ item. IsAtom (atom_of item.0)) (λ item f. atom (atom_of item.0) f.0) level.items h)
-      (weights-fit level.items e (each-map (λ item. Fits (atom_of item.0) × FitsWeight item.1) (λ item. FitsWeight item.1) (λ item f. f.1) level.items h))
+      (each-weaker (λ item. Fits (atom_of item.0) × FitsWeight item.1) (λ item. IsAtom (atom_of item.0)) (λ item f. atom (atom_of item.0) f.0) level.items h)
+      (weights-fit level.items e (each-weaker (λ item. Fits (atom_of item.0) × FitsWeight item.1) (λ item. FitsWeight item.1) (λ item f. f.1) level.items h))
 
   levels-fit : (levels : List Level) → AllByRecursion (λ level. IsShort level.items) levels → AllByRecursion (LevelFits Fits) levels
       → list_all (λ level. list_all (λ item. int_le (pos 0) item.1) level.items) levels ≡ true → AllByRecursion (λ level. ItemsInOrder (items_negatives_first level.items)) levels
@@ -166,14 +143,8 @@ module _ (P : Ground) (f : IsProgram P) (small : size P ≤ 2 ^ 28) where
   abbrev most : ℕ
   most = 1 + length P.rules + length P.shows
 
-  parts-most : length P.atoms + length P.rules + length P.shows ≤ 2 ^ 28
-  parts-most =
-      let rules : length P.rules ≤ sum_by rule_size P.rules = sum_by-most rule_size (λ rule. omega arith) P.rules in
-      let shows : length P.shows ≤ sum_by (λ show. 1 + length show.condition) P.shows = sum_by-most (λ show. 1 + length show.condition) (λ show. omega arith) P.shows in
-      omega arith
-
   new-fits : (k : ℕ) → k < most → IsAtom (new_atom P.atoms k)
-  new-fits k l = let low : new_atom P.atoms k ≤ length P.atoms + k + 1 = new_atom-most P.atoms k in ((new_atom-least P.atoms k).positive, omega (arith, parts-most))
+  new-fits k l = let low : new_atom P.atoms k ≤ length P.atoms + k + 1 = new_atom-most P.atoms k in ((new_atom-least P.atoms k).positive, omega (arith, size-many P))
 
   abbrev behind : ℕ
   behind = after_rules (first_index P) P.rules
@@ -181,7 +152,7 @@ module _ (P : Ground) (f : IsProgram P) (small : size P ≤ 2 ^ 28) where
   behind-most : behind + length P.shows ≤ most
   behind-most =
       let first : first_index P ≤ 1 = first-most (has_headless P) in
-      let rules : after_rules (first_index P) P.rules ≤ first_index P + length P.rules = after_rules-most (first_index P) P.rules in
+      let rules : after_rules (first_index P) P.rules ≤ first_index P + length P.rules = after_rules-few (first_index P) P.rules in
       omega arith
 
   atom : (a : ℕ) → Among P.atoms a → IsAtom a
@@ -191,7 +162,7 @@ module _ (P : Ground) (f : IsProgram P) (small : size P ≤ 2 ^ 28) where
   refuted-fits = new-fits 0 (omega arith)
 
   required-fit : (test : Literal → Bool) → AllByRecursion IsAtom (map atom_of (filter test P.required))
-  required-fit test = atoms-fit test P.required (each-map (λ l. Among P.atoms (atom_of l)) (λ l. IsAtom (atom_of l)) (λ l k. atom (atom_of l) k) P.required f.required)
+  required-fit test = atoms-fit test P.required (each-weaker (λ l. Among P.atoms (atom_of l)) (λ l. IsAtom (atom_of l)) (λ l k. atom (atom_of l) k) P.required f.required)
 
   one-at_most : (b : Bool) (a : ℕ) → IsAtom a → AllByRecursion IsAtom (cond b (a ∷ []) [])
   one-at_most true a h = (h, tt)
@@ -208,7 +179,7 @@ module _ (P : Ground) (f : IsProgram P) (small : size P ≤ 2 ^ 28) where
         rules = each-append Line (rules_lowered new (new 0) (first_index P) P.rules) (show_rules new behind P.shows)
             (rules-lines new most new-fits F atom (first_index P) P.rules refuted-fits (omega (arith, behind-most)) f.rules)
             (shows-lines new most new-fits F atom behind P.shows behind-most f.shows);
-        sums = each-mapped ItemsInOrder (λ level. items_negatives_first level.items) (reverse P.levels)
+        sums = each-map ItemsInOrder (λ level. items_negatives_first level.items) (reverse P.levels)
             (each-reversed Sums P.levels [] (levels-fit F atom P.levels short f.levels told.0) tt);
         symbols = symbols-fit new most new-fits F atom behind P.shows behind-most told.1 f.shows;
         plus = required-fit is_positive;

@@ -1,60 +1,23 @@
 -- Bodies with their negative literals first are those that smodels text can say.
-use Rattle.std.proofs.Common.{◌≡◌, refl, sym, ◌∙◌, ap, ap₂, subst, ℕ, ◌^◌, ◌≤◌, ℤ, pos, int_lt, Bool, true, false, cond, not, List, [], ◌∷◌, ◌++◌, map, filter, length, length-append, arith}
+use Rattle.std.proofs.Common.{◌≡◌, refl, sym, ◌∙◌, ap₂, subst, ℕ, ◌^◌, ◌≤◌, ℤ, pos, int_lt, Bool, true, false, cond, not, List, [], ◌∷◌, ◌++◌, map, filter, arith}
 use Rattle.std.specs.List.{AllByRecursion}
 use Rattle.std.proofs.lemmas.Int.{ints}
 use Rattle.std.proofs.lemmas.List.{length-map, map-append}
-use Rattle.std.proofs.lemmas.List.Filters.{length-filter_both}
-use Rattle.asp_base.specs.Literal.{Literal, Pos, Neg, atom_of, is_positive}
+use Rattle.asp_base.specs.Literal.{Literal, Pos, atom_of, is_positive}
 use Rattle.ground_program.specs.Facts.{IsAtom, IsShort, FitsWeight, FitsBodyWeight, LiteralsFit}
 use Rattle.smodels_format.specs.Lowering.{negatives_first, items_negatives_first, at_least_zero}
-use Rattle.smodels_format.specs.SmodelsText.{literals_of}
-use Rattle.smodels_format.proofs.LoweredBodies.{each-append}
+use Rattle.smodels_format.specs.Written.{literals_of}
+use Rattle.asp_base.proofs.Each.{each-append, each-filter, each-map}
+use Rattle.smodels_format.proofs.Parted.{length-parted, map-filter, negatives-are, positives-are}
 use Rattle.smodels_format.proofs.TextParts.{LiteralsInOrder, ItemsInOrder}
-
--- ---- a list is cut in two by a test
-
-pub each-filter : {X : Type 0} (P : X → Type 0) (test : X → Bool) (xs : List X) → AllByRecursion P xs → AllByRecursion P (filter test xs)
-each-filter P test [] h = tt
-each-filter P test (x ∷ xs) h = by (test x) (each-filter P test xs h.1)
-  where
-    by : (b : Bool) → AllByRecursion P (filter test xs) → AllByRecursion P (cond b (x ∷ filter test xs) (filter test xs))
-    by true k = (h.0, k)
-    by false k = k
-
-pub each-mapped : {X Y : Type 0} (P : Y → Type 0) (f : X → Y) (xs : List X) → AllByRecursion (λ x. P (f x)) xs → AllByRecursion P (map f xs)
-each-mapped P f [] h = tt
-each-mapped P f (x ∷ xs) h = (h.0, each-mapped P f xs h.1)
-
-length-parted : {X : Type 0} (test : X → Bool) (xs : List X) → length (filter (λ x. not (test x)) xs ++ filter test xs) ≡ length xs
-length-parted test xs =
-    omega (arith, length-append (filter (λ x. not (test x)) xs) (filter test xs), length-filter_both test (λ x. not (test x)) (λ x. refl) xs)
-
-map-filter : {X Y : Type 0} (f : X → Y) (test : Y → Bool) (xs : List X) → map f (filter (λ x. test (f x)) xs) ≡ filter test (map f xs)
-map-filter f test [] = refl
-map-filter f test (x ∷ xs) = by (test (f x)) (map-filter f test xs)
-  where
-    by : (b : Bool) → map f (filter (λ y. test (f y)) xs) ≡ filter test (map f xs)
-        → map f (cond b (x ∷ filter (λ y. test (f y)) xs) (filter (λ y. test (f y)) xs)) ≡ cond b (f x ∷ filter test (map f xs)) (filter test (map f xs))
-    by true e = ap (λ ys. f x ∷ ys) e
-    by false e = e
 
 -- ---- literals
 
 abbrev is_negative : Literal → Bool
 is_negative l = not (is_positive l)
 
-negatives-are : (lits : List Literal) → map (λ a. Neg a) (map atom_of (filter is_negative lits)) ≡ filter is_negative lits
-negatives-are [] = refl
-negatives-are (Pos a ∷ lits) = negatives-are lits
-negatives-are (Neg a ∷ lits) = ap (λ ls. Neg a ∷ ls) (negatives-are lits)
-
-positives-are : (lits : List Literal) → map (λ a. Pos a) (map atom_of (filter is_positive lits)) ≡ filter is_positive lits
-positives-are [] = refl
-positives-are (Pos a ∷ lits) = ap (λ ls. Pos a ∷ ls) (positives-are lits)
-positives-are (Neg a ∷ lits) = positives-are lits
-
 pub atoms-fit : (test : Literal → Bool) (lits : List Literal) → LiteralsFit IsAtom lits → AllByRecursion IsAtom (map atom_of (filter test lits))
-atoms-fit test lits h = each-mapped IsAtom atom_of (filter test lits) (each-filter (λ l. IsAtom (atom_of l)) test lits h)
+atoms-fit test lits h = each-map IsAtom atom_of (filter test lits) (each-filter (λ l. IsAtom (atom_of l)) test lits h)
 
 pub literals-in_order : (lits : List Literal) → IsShort lits → LiteralsFit IsAtom lits → LiteralsInOrder (negatives_first lits)
 literals-in_order lits short h = record {
@@ -83,7 +46,7 @@ literals-of xs =
 pub items-in_order : (xs : List (Literal × ℤ)) → IsShort xs → AllByRecursion (λ item. IsAtom (atom_of item.0)) xs → AllByRecursion (λ item. FitsBodyWeight item.1) xs → ItemsInOrder (items_negatives_first xs)
 items-in_order xs short atoms weights = record {
   literals = subst LiteralsInOrder (sym (literals-of xs))
-      (literals-in_order (literals_of xs) (subst (λ n. n ≤ 2 ^ 24) (sym (length-map xs literal_of_item)) short) (each-mapped (λ l. IsAtom (atom_of l)) literal_of_item xs atoms));
+      (literals-in_order (literals_of xs) (subst (λ n. n ≤ 2 ^ 24) (sym (length-map xs literal_of_item)) short) (each-map (λ l. IsAtom (atom_of l)) literal_of_item xs atoms));
   weights = each-append (λ item. FitsBodyWeight item.1) (filter (λ item. is_negative item.0) xs) (filter (λ item. is_positive item.0) xs)
       (each-filter (λ item. FitsBodyWeight item.1) (λ item. is_negative item.0) xs weights) (each-filter (λ item. FitsBodyWeight item.1) (λ item. is_positive item.0) xs weights);
 }

@@ -7,9 +7,9 @@ use Rattle.ground_program.specs.declared.program.Head.{Head}
 use Rattle.ground_program.specs.declared.program.Head.TheVariants.{Nothing, One, Choice}
 use Rattle.ground_program.specs.declared.program.Body.{Body}
 use Rattle.ground_program.specs.declared.program.Body.TheVariants.{All, Sum}
-use Rattle.statement_fields.specs.Feeds.{HasNoFeed}
+use Rattle.asp_scan.specs.Feeds.{HasNoFeed}
 use Rattle.smodels_format.specs.Parts.{Parts}
-use Rattle.smodels_format.specs.SmodelsText.{literals_of}
+use Rattle.smodels_format.specs.Written.{literals_of}
 use Rattle.smodels_format.specs.Writable.{is_writable_name}
 
 -- negative literals, and then positive ones

@@ -1,5 +1,5 @@
 -- The text of parts is read as the program that they are.
-use Rattle.std.proofs.Common.{◌≡◌, refl, sym, ◌∙◌, ap, ℕ, suc, ℤ, pos, List, [], ◌∷◌, ◌++◌, map, length, length-append, append_assoc, append-nil, Ok, codes, arith}
+use Rattle.std.proofs.Common.{◌≡◌, refl, sym, ◌∙◌, ap, ℕ, suc, ℤ, pos, List, [], ◌∷◌, ◌++◌, map, length, length-append, append_assoc, append-nil, Result, Ok, codes, arith}
 use Rattle.std.specs.List.{AllByRecursion, flat_map}
 use Rattle.asp_base.specs.Literal.{Literal, Pos, Neg}
 use Rattle.asp_scan.specs.Lines.{pieces_of, numbered, end_line}
@@ -8,13 +8,15 @@ use Rattle.ground_program.specs.Facts.{IsAtom}
 use Rattle.ground_program.specs.declared.program.Rule.{Rule}
 use Rattle.ground_program.specs.declared.program.Level.{Level}
 use Rattle.ground_program.specs.declared.program.Show.{Show}
-use Rattle.ground_program.proofs.Passing.{each-map}
+use Rattle.ground_program.specs.declared.reading.ReadKind.{ReadKind}
+use Rattle.asp_base.proofs.Each.{each-weaker}
+use Rattle.statement_fields.proofs.LineSteps.{Adding, steps, number_behind, read_from, lines-read}
 use Rattle.smodels_format.specs.Parts.{Parts, levels_from, show_of, draft_of_parts, program_of_parts}
-use Rattle.smodels_format.specs.Smodels.{rule_entry, symbol_entry, required_entry, models, negative_part, positive_part, symbol_part, built, smodels_of}
-use Rattle.smodels_format.specs.SmodelsText.{rule_line, sum_line, symbol_line, atom_line, word_line, text_of_parts}
+use Rattle.smodels_format.specs.Read.{Entry, rule_entry, symbol_entry, required_entry, Stage, part, models, negative_part, positive_part, symbol_part, built, smodels_of}
+use Rattle.smodels_format.specs.Written.{rule_line, sum_line, symbol_line, atom_line, word_line, text_of_parts}
 use Rattle.smodels_format.proofs.TextParts.{ItemsInOrder, HasLine, SymbolFits, PartsFit}
-use Rattle.smodels_format.proofs.TextSteps.{Adding, steps, number_behind, part_from, lines-read, end-read}
-use Rattle.smodels_format.proofs.TextLines.{with_sum, with_sign, with_symbol, rule-adding, sum-adding, required-adding, symbol-adding}
+use Rattle.smodels_format.proofs.TextSteps.{EntryAdds, end-read}
+use Rattle.smodels_format.proofs.TextLines.{with_sum, with_sign, with_symbol, rule-adds, sum-adds, required-adds, symbol-adds}
 
 -- ---- what many lines add
 
@@ -76,11 +78,11 @@ module _ (parts : Parts) (h : PartsFit parts) (last : ℕ) where
   abbrev behind_symbols : Draft → Draft
   behind_symbols d = behind_plus (steps with_symbol parts.symbols d)
 
-  minus-adding : AllByRecursion (λ a. Adding (required_entry negative) (atom_line a) (with_sign negative a)) parts.minus
-  minus-adding = each-map IsAtom (λ a. Adding (required_entry negative) (atom_line a) (with_sign negative a)) (required-adding negative) parts.minus h.minus
-
-  plus-adding : AllByRecursion (λ a. Adding (required_entry positive) (atom_line a) (with_sign positive a)) parts.plus
-  plus-adding = each-map IsAtom (λ a. Adding (required_entry positive) (atom_line a) (with_sign positive a)) (required-adding positive) parts.plus h.plus
+  -- each line of a list adds
+  each-adds : {A : Type 0} (entry : Draft → List ℕ → Result Entry ReadKind) (Fits : A → Type 0) (line : A → List ℕ) (step : A → Draft → Draft)
+      → ((x : A) → Fits x → EntryAdds entry (line x) (step x)) → (next : Stage) (xs : List A) → AllByRecursion Fits xs
+      → AllByRecursion (λ x. Adding (part entry next last) (line x) (step x)) xs
+  each-adds entry Fits line step adds next xs fit = each-weaker Fits (λ x. Adding (part entry next last) (line x) (step x)) (λ x k. adds x k next last) xs fit
 
   models-read : (n : ℕ) (d : Draft) → models d (numbered n (pieces_of (word_line (codes "1")))) ≡ Ok d
   models-read n d = refl
@@ -88,7 +90,8 @@ module _ (parts : Parts) (h : PartsFit parts) (last : ℕ) where
   minus-read : (n : ℕ) (d : Draft) → negative_part last d (numbered n (pieces_of minus_text)) ≡ Ok (behind_minus d)
   minus-read n d =
       let m : ℕ = number_behind (suc n) parts.minus in
-      lines-read (required_entry negative) models last atom_line (with_sign negative) (suc n) d parts.minus end_text minus-adding
+      lines-read (part (required_entry negative) models last) atom_line (with_sign negative) (suc n) d parts.minus end_text
+      (each-adds (required_entry negative) IsAtom atom_line (with_sign negative) (required-adds negative) models parts.minus h.minus)
       ∙ (end-read (required_entry negative) models last m (behind_minus d) (word_line (codes "1")) refl
       ∙ models-read (suc m) (behind_minus d))
 
@@ -96,7 +99,8 @@ module _ (parts : Parts) (h : PartsFit parts) (last : ℕ) where
   plus-read n d =
       let m : ℕ = number_behind (suc n) parts.plus in
       let e : Draft = steps (with_sign positive) parts.plus d in
-      lines-read (required_entry positive) (negative_part last) last atom_line (with_sign positive) (suc n) d parts.plus (word_line (codes "0") ++ minus_text) plus-adding
+      lines-read (part (required_entry positive) (negative_part last) last) atom_line (with_sign positive) (suc n) d parts.plus (word_line (codes "0") ++ minus_text)
+      (each-adds (required_entry positive) IsAtom atom_line (with_sign positive) (required-adds positive) (negative_part last) parts.plus h.plus)
       ∙ (end-read (required_entry positive) (negative_part last) last m e minus_text refl
       ∙ minus-read (suc m) e)
 
@@ -104,27 +108,27 @@ module _ (parts : Parts) (h : PartsFit parts) (last : ℕ) where
   symbols-read n d =
       let m : ℕ = number_behind n parts.symbols in
       let e : Draft = steps with_symbol parts.symbols d in
-      lines-read symbol_entry (positive_part last) last symbol_line with_symbol n d parts.symbols (word_line (codes "0") ++ plus_text)
-      (each-map SymbolFits (λ x. Adding symbol_entry (symbol_line x) (with_symbol x)) symbol-adding parts.symbols h.symbols)
+      lines-read (part symbol_entry (positive_part last) last) symbol_line with_symbol n d parts.symbols (word_line (codes "0") ++ plus_text)
+      (each-adds symbol_entry SymbolFits symbol_line with_symbol symbol-adds (positive_part last) parts.symbols h.symbols)
       ∙ (end-read symbol_entry (positive_part last) last m e plus_text refl
       ∙ plus-read (suc m) e)
 
   abbrev read_draft : Draft
   read_draft = behind_symbols (steps with_sum parts.sums (steps with_rule parts.rules empty_draft))
 
-  sums-read : (n : ℕ) (d : Draft) → part_from rule_entry (symbol_part last) last n d sums_text ≡ Ok (behind_symbols (steps with_sum parts.sums d))
+  sums-read : (n : ℕ) (d : Draft) → read_from (part rule_entry (symbol_part last) last) n d sums_text ≡ Ok (behind_symbols (steps with_sum parts.sums d))
   sums-read n d =
       let m : ℕ = number_behind n parts.sums in
       let e : Draft = steps with_sum parts.sums d in
-      lines-read rule_entry (symbol_part last) last sum_line with_sum n d parts.sums (word_line (codes "0") ++ symbols_text)
-      (each-map ItemsInOrder (λ xs. Adding rule_entry (sum_line xs) (with_sum xs)) sum-adding parts.sums h.sums)
+      lines-read (part rule_entry (symbol_part last) last) sum_line with_sum n d parts.sums (word_line (codes "0") ++ symbols_text)
+      (each-adds rule_entry ItemsInOrder sum_line with_sum sum-adds (symbol_part last) parts.sums h.sums)
       ∙ (end-read rule_entry (symbol_part last) last m e symbols_text refl
       ∙ symbols-read (suc m) e)
 
-  text-read : part_from rule_entry (symbol_part last) last 1 empty_draft (text_of_parts parts) ≡ Ok read_draft
+  text-read : read_from (part rule_entry (symbol_part last) last) 1 empty_draft (text_of_parts parts) ≡ Ok read_draft
   text-read =
-      lines-read rule_entry (symbol_part last) last rule_line with_rule 1 empty_draft parts.rules sums_text
-      (each-map (λ rule. HasLine rule.head rule.body) (λ rule. Adding rule_entry (rule_line rule) (with_rule rule)) rule-adding parts.rules h.rules)
+      lines-read (part rule_entry (symbol_part last) last) rule_line with_rule 1 empty_draft parts.rules sums_text
+      (each-adds rule_entry (λ rule. HasLine rule.head rule.body) rule_line with_rule rule-adds (symbol_part last) parts.rules h.rules)
       ∙ sums-read (number_behind 1 parts.rules) (steps with_rule parts.rules empty_draft)
 
   -- ---- the draft is the one that was written

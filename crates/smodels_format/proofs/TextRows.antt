@@ -5,7 +5,7 @@ use Rattle.asp_base.specs.Literal.{Pos, Neg}
 use Rattle.ground_program.specs.Ground.{Ground}
 use Rattle.ground_program.specs.declared.program.Head.TheVariants.{Nothing, One, Choice}
 use Rattle.ground_program.specs.declared.program.Body.TheVariants.{All, Sum}
-use Rattle.smodels_format.specs.SmodelsText.{smodels_text}
+use Rattle.smodels_format.specs.Written.{smodels_text}
 use Rattle.smodels_format.specs.Writable.{is_writable}
 
 -- two atoms, each of which holds where the other does not, and a name that is always shown

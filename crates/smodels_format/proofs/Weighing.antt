@@ -1,16 +1,19 @@
 -- Weights that are read one by one, each beside its literal.
-use Rattle.std.proofs.Common.{rules, ◌≡◌, ◌∙◌, ℕ, suc, ◌+◌, List, [], ◌∷◌, ◌++◌, length, map, Ok, Err, refl, sym, ap, subst, arith, append-nil, length-append}
+use Rattle.std.proofs.Common.{rules, ◌≡◌, ◌∙◌, ℕ, ◌+◌, List, [], ◌∷◌, ◌++◌, length, map, Ok, Err, refl, sym, ap, subst, arith, append-nil, length-append}
 use Rattle.std.specs.Prelude.{ℤ, pos}
 use Rattle.std.specs.List.{AllByRecursion}
+use Rattle.std.proofs.lemmas.List.{length-map}
 use Rattle.asp_base.specs.Literal.{Literal, atom_of}
 use Rattle.asp_scan.specs.Scanning.{Scanning}
 use Rattle.ground_program.specs.Facts.{IsAtom, FitsBodyWeight, LiteralsFit}
 use Rattle.ground_program.specs.declared.reading.ReadKind.{ReadKind}
-use Rattle.statement_fields.specs.Fields.{Reading, ◌>>=◌, body_weight, many}
-use Rattle.statement_fields.proofs.SoFar.{fit-push}
-use Rattle.smodels_format.specs.Smodels.{counts, literals, weighted, items}
-use Rattle.smodels_format.specs.Steps.{onto, weights_of}
-use Rattle.smodels_format.proofs.Pushing.{onto-none, onto-next}
+use Rattle.asp_base.specs.Faults.{◌>>=◌}
+use Rattle.statement_fields.specs.Fields.{Reading, body_weight, many}
+use Rattle.statement_fields.specs.private.Onto.{onto}
+use Rattle.statement_fields.proofs.SoFar.{onto-none, onto-next}
+use Rattle.asp_base.proofs.Each.{each-push, each-map, each-weaker}
+use Rattle.smodels_format.specs.Read.{counts, literals, weighted, items}
+use Rattle.smodels_format.specs.private.Steps.{weights_of}
 
 abbrev pub ItemFits : Literal × ℤ → Type 0
 ItemFits item = IsAtom (atom_of item.0) × FitsBodyWeight item.1
@@ -22,9 +25,6 @@ pub record Weighing (lits left : List Literal) (start now : Scanning) (items : L
   pub atoms : LiteralsFit IsAtom left
   pub fit : AllByRecursion ItemFits items
   pub rest : now ≡ record start { left = now.left }
-
-abbrev moved : List ℕ → Scanning → Scanning
-moved left s = record s { left = left }
 
 abbrev then_weights : Literal → List Literal → ℤ × List ℕ → Reading (List (Literal × ℤ))
 then_weights l lits w = weights_of lits w.1 >>= (λ rest. Ok ((l, w.0) ∷ rest.0, rest.1))
@@ -49,8 +49,8 @@ Weighing-next {lits = lits} {left = left} {l = l} {start = start} {now = now} {a
           ∙ here.same;
       size = omega (arith, length-append items ((l, w) ∷ []), here.size);
       atoms = here.atoms.1;
-      fit = fit-push ItemFits items (l, w) h.fit (here.atoms.0, fits);
-      rest = frame ∙ ap (moved after.left) h.rest;
+      fit = each-push ItemFits items (l, w) h.fit (here.atoms.0, fits);
+      rest = frame ∙ ap (λ (s : Scanning). record s { left = after.left }) h.rest;
     } in
     subst (λ xs. Weighing lits left start after xs) (sym grown) next
 
@@ -105,17 +105,12 @@ items-by line left rest n lits counted read size =
 abbrev one_each : List Literal → List (Literal × ℤ)
 one_each lits = map (λ l. (l, pos 1)) lits
 
-ones-fit : (lits : List Literal) → LiteralsFit IsAtom lits → AllByRecursion ItemFits (one_each lits)
-ones-fit [] fit = tt
-ones-fit (l ∷ lits) fit = ((fit.0, (search rules, search rules)), ones-fit lits fit.1)
-
-ones-long : (lits : List Literal) → length (one_each lits) ≡ length lits
-ones-long [] = refl
-ones-long (l ∷ lits) = ap suc (ones-long lits)
+one-fits : (l : Literal) → IsAtom (atom_of l) → ItemFits (l, pos 1)
+one-fits l h = (h, (search rules, search rules))
 
 module _ (lits slice : List Literal) (items : List (Literal × ℤ)) (same : slice ≡ lits) (are : items ≡ one_each slice) where
   pub counting-fits : LiteralsFit IsAtom lits → AllByRecursion ItemFits items
-  counting-fits fit = subst (λ xs. AllByRecursion ItemFits xs) (sym (are ∙ ap one_each same)) (ones-fit lits fit)
+  counting-fits fit = subst (λ xs. AllByRecursion ItemFits xs) (sym (are ∙ ap one_each same)) (each-map ItemFits (λ l. (l, pos 1)) lits (each-weaker (λ l. IsAtom (atom_of l)) (λ l. ItemFits (l, pos 1)) one-fits lits fit))
 
   pub counting-long : length items ≡ length lits
-  counting-long = ap length are ∙ ones-long slice ∙ ap length same
+  counting-long = ap length are ∙ length-map slice (λ l. (l, pos 1)) ∙ ap length same

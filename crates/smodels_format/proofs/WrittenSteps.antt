@@ -6,7 +6,7 @@ use Rattle.std.proofs.lemmas.Grind.{flat_map-append}
 use Rattle.std.proofs.lemmas.List.Sums.{sum_by-cons}
 use Rattle.asp_scan.specs.Words.{ends_with_return}
 use Rattle.ground_program.specs.Ground.{Ground}
-use Rattle.ground_program.specs.Size.{size, rule_size, entries, choices}
+use Rattle.ground_program.specs.Size.{size, rule_size}
 use Rattle.ground_program.specs.Stable.{is_headless}
 use Rattle.ground_program.specs.declared.program.Head.{Head}
 use Rattle.ground_program.specs.declared.program.Head.TheVariants.{Nothing, One, Choice}
@@ -15,12 +15,12 @@ use Rattle.ground_program.specs.declared.program.Body.TheVariants.{All, Sum}
 use Rattle.ground_program.specs.declared.program.Rule.{Rule}
 use Rattle.ground_program.specs.declared.program.Show.{Show}
 use Rattle.smodels_format.specs.Lowering.{is_single, single_atom, body_in_order, rule_draws, after_rules, rule_lowered, rules_lowered, symbols_from, show_rules}
-use Rattle.smodels_format.specs.SmodelsText.{rule_line}
-use Rattle.smodels_format.specs.Writing.{Drawing, after_refuted, symbol_atoms, with_names, condition_rules}
+use Rattle.smodels_format.specs.Written.{rule_line}
+use Rattle.smodels_format.specs.private.Writing.{Drawing, after_refuted, symbol_atoms, with_names, condition_rules}
 
 -- ---- a carriage return at the end
 
-pub ends-last : (bytes : List ℕ) (k x : ℕ) → suc k ≡ length bytes → Some x ≡ slice_get bytes k → (x == 13) ≡ ends_with_return bytes
+ends-last : (bytes : List ℕ) (k x : ℕ) → suc k ≡ length bytes → Some x ≡ slice_get bytes k → (x == 13) ≡ ends_with_return bytes
 ends-last [] k x l e = absurd (omega arith)
 ends-last (byte ∷ []) zero x l e = let same : x ≡ byte = cc in ap (λ y. y == 13) same
 ends-last (byte ∷ []) (suc k) x l e = absurd (omega arith)
@@ -33,7 +33,7 @@ ends-some (byte ∷ bytes) x e = ends-last (byte ∷ bytes) (length (byte ∷ by
 
 -- ---- rules
 
-pub draws-few : (h : Head) (b : Body) → rule_draws h b ≤ 1
+draws-few : (h : Head) (b : Body) → rule_draws h b ≤ 1
 draws-few Nothing b = omega arith
 draws-few (One a) b = omega arith
 draws-few (Choice as_) (All lits) = omega arith
@@ -113,20 +113,15 @@ length-symbol_atoms new n (show ∷ shows) =
 
 -- ---- sizes
 
-rules-sized : (rules : List Rule) → length rules ≤ sum_by rule_size rules
-rules-sized [] = omega arith
-rules-sized (rule ∷ rules) = let k : length rules ≤ sum_by rule_size rules = rules-sized rules in
-    let e : sum_by rule_size (rule ∷ rules) ≡ 1 + entries rule.body + choices rule.head + sum_by rule_size rules = sum_by-cons rule_size rule rules in omega arith
-
-shows-sized : (shows : List Show) → length shows ≤ sum_by (λ show. 1 + length show.condition) shows
-shows-sized [] = omega arith
-shows-sized (show ∷ shows) = let k : length shows ≤ sum_by (λ show. 1 + length show.condition) shows = shows-sized shows in
-    let e : sum_by (λ show. 1 + length show.condition) (show ∷ shows) ≡ 1 + length show.condition + sum_by (λ show. 1 + length show.condition) shows = sum_by-cons (λ show. 1 + length show.condition) show shows in
-    omega arith
+sum_by-most : {A : Type 0} (f : A → ℕ) → ((x : A) → 1 ≤ f x) → (xs : List A) → length xs ≤ sum_by f xs
+sum_by-most f h [] = omega arith
+sum_by-most f h (x ∷ xs) = let here : 1 ≤ f x = h x in let rest : length xs ≤ sum_by f xs = sum_by-most f h xs in omega (arith, sum_by-cons f x xs)
 
 pub size-many : (P : Ground) → length P.atoms + length P.rules + length P.shows ≤ size P
-size-many P = let r : length P.rules ≤ sum_by rule_size P.rules = rules-sized P.rules in
-    let s : length P.shows ≤ sum_by (λ show. 1 + length show.condition) P.shows = shows-sized P.shows in omega arith
+size-many P =
+    let rules : length P.rules ≤ sum_by rule_size P.rules = sum_by-most rule_size (λ rule. omega arith) P.rules in
+    let shows : length P.shows ≤ sum_by (λ show. 1 + length show.condition) P.shows = sum_by-most (λ show. 1 + length show.condition) (λ show. omega arith) P.shows in
+    omega arith
 
 after_refuted-few : (n : ℕ) (rules : List Rule) → after_refuted n rules ≤ n + 1
 after_refuted-few n rules = by (list_any (λ rule. is_headless rule.head) rules)

@@ -11,11 +11,11 @@ use Rattle.ground_program.specs.declared.program.Level.{Level}
 use Rattle.ground_program.specs.declared.program.Rule.{Rule}
 use Rattle.ground_program.specs.declared.program.Show.{Show}
 use Rattle.smodels_format.specs.Lowering.{items_negatives_first, has_headless, after_rules, rules_lowered, show_rules, symbols_from, atoms_required}
-use Rattle.smodels_format.specs.SmodelsText.{rule_line, sum_line, symbol_line, atom_line, word_line, smodels_text}
-use Rattle.smodels_format.specs.Writing.{Drawing, symbol_atoms, with_names, required_line, refuted_atom, after_refuted, refuted_line, rule_part, symbol_part, required_part}
+use Rattle.smodels_format.specs.Written.{rule_line, sum_line, symbol_line, atom_line, word_line, smodels_text}
+use Rattle.smodels_format.specs.private.Writing.{Drawing, symbol_atoms, with_names, required_line, refuted_atom, after_refuted, refuted_line, rule_part, symbol_part, required_part}
 use Rattle.smodels_format.specs.declared.sign.Sign.TheVariants.{Negative, Positive}
-use Rattle.smodels_format.proofs.WrittenBodies.{pieces}
-use Rattle.smodels_format.proofs.WrittenLines.{five}
+use Rattle.smodels_format.proofs.Parted.{pieces}
+use Rattle.statement_fields.proofs.LinePieces.{five_appends}
 use Rattle.smodels_format.proofs.WrittenSteps.{refuted-unread, symbols-are, show_rules-are}
 
 -- ---- rules
@@ -115,4 +115,4 @@ program-written P start after rules levels shows required refuted symbols old o1
     let r' : o3 ≡ o2 ++ symbol_part (with_names (symbol_atoms (new_atom P.atoms) (after_rules (after_refuted 0 P.rules) P.rules) P.shows) P.shows) =
     r ∙ ap₂ (λ xs ss. o2 ++ symbol_part (with_names xs ss)) e_symbols shows-are in
     let s' : o4 ≡ o3 ++ required_part P.required none = s ∙ ap₂ (λ ls x. o3 ++ required_part ls x) required-are e_refuted in
-    five old o1 o2 o3 o4 o5 _ _ _ _ _ p' q' r' s' t ∙ ap (λ bytes. old ++ bytes) (sym (text-written P))
+    five_appends old o1 o2 o3 o4 o5 _ _ _ _ _ p' q' r' s' t ∙ ap (λ bytes. old ++ bytes) (sym (text-written P))

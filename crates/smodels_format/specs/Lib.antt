@@ -1,7 +1,6 @@
 pub mod Lowering
 pub mod Parts
-pub mod Smodels
-pub mod SmodelsText
-pub mod Steps
+pub mod Read
 pub mod Writable
-pub mod Writing
+pub mod Written
+pub mod private

@@ -1,5 +1,6 @@
--- A program in the form that smodels text has: a rule without head gets an atom that is required to be false, a choice over a
--- weight body gets an atom for the body, and a name that is not shown by one atom gets one.
+-- A program in the form that smodels text has: a rule without head gets an atom that is required to
+-- be false, a choice over a weight body gets an atom for the body, and a name that is not shown by
+-- one atom gets one.
 use Rattle.std.specs.Prelude.{ℕ, suc, ◌+◌, ℤ, pos, int_lt, Bool, true, false, not, cond, if◌then◌else◌, List, [], ◌∷◌, ◌++◌, map, reverse}
 use Rattle.std.specs.List.{list_any, filter}
 use Rattle.asp_base.specs.Literal.{Literal, Pos, is_positive, atom_of}
@@ -20,7 +21,8 @@ abbrev pub negatives_first : List Literal → List Literal
 negatives_first lits = filter (λ l. not (is_positive l)) lits ++ filter is_positive lits
 
 abbrev pub items_negatives_first : List (Literal × ℤ) → List (Literal × ℤ)
-items_negatives_first items = filter (λ item. not (is_positive item.0)) items ++ filter (λ item. is_positive item.0) items
+items_negatives_first items =
+    filter (λ item. not (is_positive item.0)) items ++ filter (λ item. is_positive item.0) items
 
 -- a bound below 0 is written as 0
 abbrev pub at_least_zero : ℤ → ℤ
@@ -56,12 +58,14 @@ abbrev pub single_atom : List Literal → ℕ
 single_atom (Pos a ∷ []) = a
 single_atom _ = 0
 
--- ---- rules and shows, with the new atoms by their index, and the one that is the head of the rules without head
+-- ---- rules and shows, with the new atoms by their index, and the one that is the head of the
+-- rules without head
 
 module _ (new : ℕ → ℕ) (refuted : ℕ) where
   -- a choice; over a weight body, the rule of a new atom, and the choice over this atom
   abbrev pub choice_lowered : ℕ → List ℕ → Body → List Rule
-  choice_lowered n as_ (All lits) = record { head = Choice as_; body = body_in_order (All lits) } ∷ []
+  choice_lowered n as_ (All lits) =
+      record { head = Choice as_; body = body_in_order (All lits) } ∷ []
   choice_lowered n as_ (Sum bound items) =
       record { head = One (new n); body = body_in_order (Sum bound items) }
       ∷ record { head = Choice as_; body = All (Pos (new n) ∷ []) }
@@ -74,20 +78,26 @@ module _ (new : ℕ → ℕ) (refuted : ℕ) where
 
   abbrev pub rules_lowered : ℕ → List Rule → List Rule
   rules_lowered n [] = []
-  rules_lowered n (rule ∷ rules) = rule_lowered n rule.head rule.body ++ rules_lowered (n + rule_draws rule.head rule.body) rules
+  rules_lowered n (rule ∷ rules) =
+      rule_lowered n rule.head rule.body ++ rules_lowered (n + rule_draws rule.head rule.body) rules
 
 module _ (new : ℕ → ℕ) where
   -- the atoms that stand for the conditions of shows, with the names
   abbrev pub symbols_from : ℕ → List Show → List (ℕ × List ℕ)
   symbols_from n [] = []
   symbols_from n (show ∷ shows) =
-      if is_single show.condition then ((single_atom show.condition, show.name) ∷ symbols_from n shows) else ((new n, show.name) ∷ symbols_from (suc n) shows)
+      if is_single show.condition
+      then ((single_atom show.condition, show.name) ∷ symbols_from n shows)
+      else ((new n, show.name) ∷ symbols_from (suc n) shows)
 
   -- the rules of the new ones among them
   abbrev pub show_rules : ℕ → List Show → List Rule
   show_rules n [] = []
   show_rules n (show ∷ shows) =
-      if is_single show.condition then show_rules n shows else (record { head = One (new n); body = body_in_order (All show.condition) } ∷ show_rules (suc n) shows)
+      if is_single show.condition
+      then show_rules n shows
+      else (record { head = One (new n); body = body_in_order (All show.condition) }
+      ∷ show_rules (suc n) shows)
 
 -- ---- the parts
 
@@ -111,7 +121,9 @@ parts_of P =
       sums = map (λ level. items_negatives_first level.items) (reverse P.levels);
       symbols = symbols_from new behind P.shows;
       plus = atoms_required is_positive P.required;
-      minus = atoms_required (λ l. not (is_positive l)) P.required ++ cond (has_headless P) (new 0 ∷ []) [];
+      minus =
+          atoms_required (λ l. not (is_positive l)) P.required
+          ++ cond (has_headless P) (new 0 ∷ []) [];
     }
 
 -- the program that stands for P in smodels text

@@ -7,8 +7,8 @@ use Rattle.ground_program.specs.declared.program.Rule.{Rule}
 use Rattle.ground_program.specs.declared.program.Level.{Level}
 use Rattle.ground_program.specs.declared.program.Show.{Show}
 
--- the rules, the items of each minimize statement, the atoms with their names, and the atoms that are required to be true and
--- to be false
+-- the rules, the items of each minimize statement, the atoms with their names, and the atoms that
+-- are required to be true and to be false
 pub record Parts : Type 0 where
   pub rules : List Rule
   pub sums : List (List (Literal × ℤ))

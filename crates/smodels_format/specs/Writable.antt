@@ -18,7 +18,8 @@ begins_word (byte ∷ bytes) = not (is_blank byte)
 abbrev pub is_writable_name : List ℕ → Bool
 is_writable_name name = begins_word name && not (ends_with_return name)
 
--- no edge, no weight of a level below 0, and no name that is empty, begins with a blank or ends with a carriage return
+-- no edge, no weight of a level below 0, and no name that is empty, begins with a blank or ends
+-- with a carriage return
 abbrev pub is_writable : Ground → Bool
 is_writable P =
     has_none P.edges

@@ -1,10 +1,14 @@
+//! Bodies and items as they are read: how many literals there are and how many of them are negative, the atoms of the
+//! negative ones and then those of the others, and where they are weighed, their weights behind them all.
+
 ghost use Rattle.std.specs.Prelude.{◌≡◌, ◌≤◌, ◌+◌, ◌^◌, pos, map, length, Ok, Err, IfOk, OnOk, IfErr};
 ghost use Rattle.std.specs.List.{AllByRecursion};
 ghost use Rattle.asp_base.specs.Literal.{atom_of};
 ghost use Rattle.ground_program.specs.Facts.{IsAtom, IsShort, LiteralsFit, BodyFits, FitsBodyWeight};
 ghost use Rattle.statement_fields.specs.Fields.{many, Faults};
-ghost use Rattle.smodels_format.specs.Smodels.{counts, literals, plain_body, count_body, items, weight_body};
-ghost use Rattle.smodels_format.specs.Steps.{signed_atom, onto, weights_of};
+ghost use Rattle.smodels_format.specs.Read.{counts, literals, plain_body, count_body, items, weight_body};
+ghost use Rattle.statement_fields.specs.private.Onto.{onto};
+ghost use Rattle.smodels_format.specs.private.Steps.{signed_atom, weights_of};
 
 use crate::sign::Sign;
 use asp_base::{Lit, Memory};
@@ -82,7 +86,7 @@ fn signed_atom(scan: &mut Scan<'_>, sign: Sign) -> Result<Lit, ReadKind>
 }
 
 /// All of the literals.
-pub fn plain_body(alloc: Global, scan: &mut Scan<'_>) -> Result<Body, FieldFault>
+pub(crate) fn plain_body(alloc: Global, scan: &mut Scan<'_>) -> Result<Body, FieldFault>
     ensures ok { IfOk result (λ body. plain_body scan.old.left ≡ Ok (body, scan.new.left)) }
     ensures err { IfErr result (λ fault. Faults (plain_body scan.old.left) fault) }
     ensures fits { IfOk result (λ body. BodyFits IsAtom body) }
@@ -94,7 +98,7 @@ pub fn plain_body(alloc: Global, scan: &mut Scan<'_>) -> Result<Body, FieldFault
 }
 
 /// At least so many of the literals.
-pub fn count_body(alloc: Global, scan: &mut Scan<'_>) -> Result<Body, FieldFault>
+pub(crate) fn count_body(alloc: Global, scan: &mut Scan<'_>) -> Result<Body, FieldFault>
     ensures ok { IfOk result (λ body. count_body scan.old.left ≡ Ok (body, scan.new.left)) }
     ensures err { IfErr result (λ fault. Faults (count_body scan.old.left) fault) }
     ensures fits { IfOk result (λ body. BodyFits IsAtom body) }
@@ -119,10 +123,11 @@ fn counting_items(alloc: Global, lits: &[Lit]) -> Result<ItemList, Memory>
 }
 
 /// The literals, and then their weights.
-pub fn items(alloc: Global, scan: &mut Scan<'_>) -> Result<ItemList, FieldFault>
+pub(crate) fn items(alloc: Global, scan: &mut Scan<'_>) -> Result<ItemList, FieldFault>
     ensures ok { IfOk result (λ found. items scan.old.left ≡ Ok (found, scan.new.left)) }
     ensures err { IfErr result (λ fault. Faults (items scan.old.left) fault) }
-    ensures fits { IfOk result (λ items. IsShort items × AllByRecursion (λ item. IsAtom (atom_of item.0) × FitsBodyWeight item.1) items) }
+    ensures fits { IfOk result (λ items. IsShort items
+        × AllByRecursion (λ item. IsAtom (atom_of item.0) × FitsBodyWeight item.1) items) }
     ensures rest { scan.new ≡ record scan.old { left = scan.new.left } }
 {
     let n = counts(scan)?;
@@ -136,7 +141,8 @@ fn weighted(alloc: Global, scan: &mut Scan<'_>, lits: &[Lit]) -> Result<ItemList
     ensures ok { IfOk result (λ items. weights_of lits.now scan.old.left ≡ Ok (items, scan.new.left)) }
     ensures err { IfErr result (λ fault. Faults (weights_of lits.now scan.old.left) fault) }
     ensures size { IfOk result (λ items. length items ≡ length lits.now) }
-    ensures fits { IfOk result (λ items. AllByRecursion (λ item. IsAtom (atom_of item.0) × FitsBodyWeight item.1) items) }
+    ensures fits { IfOk result
+        (λ items. AllByRecursion (λ item. IsAtom (atom_of item.0) × FitsBodyWeight item.1) items) }
     ensures rest { scan.new ≡ record scan.old { left = scan.new.left } }
 {
     let mut items = Vec::new(alloc);
@@ -147,7 +153,7 @@ fn weighted(alloc: Global, scan: &mut Scan<'_>, lits: &[Lit]) -> Result<ItemList
 }
 
 /// A bound, the literals, and then their weights.
-pub fn weight_body(alloc: Global, scan: &mut Scan<'_>) -> Result<Body, FieldFault>
+pub(crate) fn weight_body(alloc: Global, scan: &mut Scan<'_>) -> Result<Body, FieldFault>
     ensures ok { IfOk result (λ body. weight_body scan.old.left ≡ Ok (body, scan.new.left)) }
     ensures err { IfErr result (λ fault. Faults (weight_body scan.old.left) fault) }
     ensures fits { IfOk result (λ body. BodyFits IsAtom body) }

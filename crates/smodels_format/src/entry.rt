@@ -1,11 +1,14 @@
+//! Lines of the symbol table and of the required atoms: each begins with an atom, or it is the 0 that ends its part;
+//! and the lines between the parts.
+
 ghost use Rattle.std.specs.Prelude.{◌≡◌, ◌≢◌, ℕ, pos, List, Result, Ok, Err, IfOk, OnOk, IfErr, IfSome};
 ghost use Rattle.ground_program.specs.Draft.{Draft};
 ghost use Rattle.ground_program.specs.Facts.{IsAtom};
 ghost use Rattle.ground_program.specs.declared.reading.ReadKind.{ReadKind};
-ghost use Rattle.statement_fields.specs.Feeds.{HasNoFeed};
+ghost use Rattle.asp_scan.specs.Feeds.{HasNoFeed};
 ghost use Rattle.statement_fields.specs.Fields.{Faults};
-ghost use Rattle.smodels_format.specs.Smodels.{unless_zero, symbol_name, symbol_entry, required_entry, heading, number_of_models};
-ghost use Rattle.smodels_format.specs.Steps.{signed, said, behind_atom, begun, atom_in, symbol_behind, required_behind};
+ghost use Rattle.smodels_format.specs.Read.{unless_zero, symbol_name, symbol_entry, required_entry, heading, number_of_models};
+ghost use Rattle.smodels_format.specs.private.Steps.{signed, said, behind_atom, begun, atom_in, symbol_behind, required_behind};
 
 use crate::sign::Sign;
 use asp_base::{ByteList, Lit};
@@ -16,7 +19,7 @@ use std::alloc::Global;
 
 /// What a line of a part was that has entries of atoms.
 #[derive(Clone, Copy)]
-pub enum EntryLine {
+pub(crate) enum EntryLine {
     Entry,
     End,
 }
@@ -25,8 +28,10 @@ const GREATEST_ATOM: u64 = 1 << 30;
 
 /// The atom that begins an entry, or None at the 0 that ends its part, which is alone in its line.
 fn entry_atom(scan: &mut Scan<'_>) -> Result<Option<u32>, ReadKind>
-    ensures ok { IfOk result (λ first. (entry : ℕ × List ℕ → Result Draft ReadKind) → unless_zero scan.old.left (behind_atom entry scan.old.left) ≡ begun first scan.new.left entry) }
-    ensures err { IfErr result (λ kind. (entry : ℕ × List ℕ → Result Draft ReadKind) → unless_zero scan.old.left (behind_atom entry scan.old.left) ≡ Err kind) }
+    ensures ok { IfOk result (λ first. (entry : ℕ × List ℕ → Result Draft ReadKind)
+        → unless_zero scan.old.left (behind_atom entry scan.old.left) ≡ begun first scan.new.left entry) }
+    ensures err { IfErr result (λ kind. (entry : ℕ × List ℕ → Result Draft ReadKind)
+        → unless_zero scan.old.left (behind_atom entry scan.old.left) ≡ Err kind) }
     ensures fits { IfOk result (λ first. IfSome first (λ a. IsAtom a)) }
     ensures rest { scan.new ≡ record scan.old { left = scan.new.left } }
     ensures no_feed { HasNoFeed scan.old.left → HasNoFeed scan.new.left }
@@ -55,8 +60,8 @@ fn atom_of(n: i64) -> Result<u32, ReadKind>
     Ok(n as u32)
 }
 
-/// A line of the symbol table: an atom and its name, which is shown where the atom is true, or the 0 that ends the table.
-pub fn symbol_line(
+/// A line of the symbol table: an atom and its name, which is shown where the atom is true, or the 0 that ends it.
+pub(crate) fn symbol_line(
     alloc: Global,
     scan: &mut Scan<'_>,
     builder: &mut ProgramBuilder,
@@ -95,6 +100,7 @@ fn symbol(
 }
 
 /// The rest of the line behind its blanks.
+#[tactic(auto, using(crate::proofs::Names::name_feeds))]
 fn symbol_name(alloc: Global, scan: &mut Scan<'_>) -> Result<ByteList, FieldFault>
     requires { HasNoFeed scan.old.left }
     ensures ok { IfOk result (λ name. symbol_name scan.old.left ≡ Ok name) }
@@ -109,27 +115,19 @@ fn symbol_name(alloc: Global, scan: &mut Scan<'_>) -> Result<ByteList, FieldFaul
     if name.is_empty() {
         return Err(FieldFault::Kind(ReadKind::BadName));
     }
-    copy(alloc, name)
-}
-
-fn copy(alloc: Global, bytes: &[u8]) -> Result<ByteList, FieldFault>
-    ensures ok { IfOk result (λ name. name ≡ bytes.now) }
-    ensures err { IfErr result (λ fault. fault ≡ FieldFault.Memory) }
-{
-    let mut name = Vec::new(alloc);
-    match name.extend_from_slice(bytes) {
-        Ok(()) => Ok(ByteList::from_vec(name)),
-        Err(_) => Err(FieldFault::Memory),
-    }
+    let mut copy = ByteList::new(alloc);
+    copy.append(name)?;
+    Ok(copy)
 }
 
 /// A line of the atoms that are required to be true, or to be false: an atom alone, or the 0 that ends them.
-pub fn required_line(
+pub(crate) fn required_line(
     scan: &mut Scan<'_>,
     builder: &mut ProgramBuilder,
     sign: Sign,
 ) -> Result<EntryLine, FieldFault>
-    ensures ok { IfOk result (λ line. required_entry (signed sign) builder.old scan.old.left ≡ Ok (said line builder.new)) }
+    ensures ok { IfOk result (λ line. required_entry (signed sign) builder.old scan.old.left
+        ≡ Ok (said line builder.new)) }
     ensures err { IfErr result (λ fault. Faults (required_entry (signed sign) builder.old scan.old.left) fault) }
     ensures end { IfOk result (λ line. line ≡ EntryLine.End → builder.new ≡ builder.old) }
     ensures rest { scan.new ≡ record scan.old { left = scan.new.left } }
@@ -159,7 +157,7 @@ fn required(
 }
 
 /// This word alone in its line.
-pub fn heading(scan: &mut Scan<'_>, text: &[u8]) -> Result<(), ReadKind>
+pub(crate) fn heading(scan: &mut Scan<'_>, text: &[u8]) -> Result<(), ReadKind>
     ensures ok { OnOk result (heading text.now scan.old.left ≡ Ok scan.new.left) }
     ensures err { IfErr result (λ kind. heading text.now scan.old.left ≡ Err kind) }
     ensures rest { scan.new ≡ record scan.old { left = scan.new.left } }
@@ -173,7 +171,7 @@ pub fn heading(scan: &mut Scan<'_>, text: &[u8]) -> Result<(), ReadKind>
 }
 
 /// How many models were asked for, which is not used.
-pub fn number_of_models(scan: &mut Scan<'_>) -> Result<(), ReadKind>
+pub(crate) fn number_of_models(scan: &mut Scan<'_>) -> Result<(), ReadKind>
     ensures ok { OnOk result ((draft : Draft) → number_of_models draft scan.old.left ≡ Ok draft) }
     ensures err { IfErr result (λ kind. (draft : Draft) → number_of_models draft scan.old.left ≡ Err kind) }
     ensures rest { scan.new ≡ record scan.old { left = scan.new.left } }

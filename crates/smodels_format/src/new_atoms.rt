@@ -1,3 +1,5 @@
+//! The atoms that the lowered program has and the program does not, one after another.
+
 ghost use Rattle.std.specs.Prelude.{◌≡◌, suc, ◌+◌, ◌<◌, ◌≤◌, ◌^◌, length, IfOk};
 ghost use Rattle.ground_program.specs.Fresh.{new_atom};
 
@@ -8,14 +10,14 @@ use std::marker::Model;
 
 /// Draws new atoms, one after another. Contracts see the atoms of the program, and how many were drawn.
 #[derive(Drop)]
-pub struct NewAtoms {
+pub(crate) struct NewAtoms {
     fresh: FreshAtoms,
 }
 
 impl Model for NewAtoms {
     ghost use Rattle.std.specs.Prelude.{◌≡◌, length};
     ghost use Rattle.ground_program.specs.Fresh.{given_by};
-    ghost use Rattle.smodels_format.specs.Writing.{Drawing};
+    ghost use Rattle.smodels_format.specs.private.Writing.{Drawing};
 
     ghost Value = { Drawing };
 
@@ -26,7 +28,7 @@ impl Model for NewAtoms {
 
 impl NewAtoms {
     /// None is drawn yet.
-    pub fn new(alloc: Global, program: &Program) -> Result<NewAtoms, Memory>
+    pub(crate) fn new(alloc: Global, program: &Program) -> Result<NewAtoms, Memory>
         ensures { IfOk result (λ atoms. atoms ≡ record { atoms = program.now.atoms; drawn = 0 }) }
     {
         let fresh = FreshAtoms::new(alloc, program)?;
@@ -34,7 +36,7 @@ impl NewAtoms {
     }
 
     /// The next new atom. The program's atoms and those that were drawn must together be fewer than 2^30.
-    pub fn draw(&mut self) -> u32
+    pub(crate) fn draw(&mut self) -> u32
         requires { length self.old.atoms + self.old.drawn < 2 ^ 30 }
         ensures atom { result ≡ new_atom self.old.atoms self.old.drawn }
         ensures positive { 0 < result }

@@ -1,13 +1,13 @@
-//! Bodies as they are written: the atoms of their literals, those of negative ones first. After `Memory` more may stand behind
-//! the text that was there; this holds of each function here.
+//! Bodies as they are written: the atoms of their literals, those of negative ones first. After `Memory` more may stand
+//! behind the text that was there; this holds of each function here.
 
 ghost use Rattle.std.specs.Prelude.{◌≡◌, [], ◌∷◌, ◌++◌, length, take, OnOk, OnErr};
 ghost use Rattle.std.specs.List.{flat_map, count_by};
 ghost use Rattle.std.specs.Fmt.{decimal};
 ghost use Rattle.statement_fields.specs.FieldWords.{spaced_before};
 ghost use Rattle.smodels_format.specs.Lowering.{negatives_first, items_negatives_first};
-ghost use Rattle.smodels_format.specs.SmodelsText.{body_words, item_words};
-ghost use Rattle.smodels_format.specs.Writing.{has_sign, atom_piece, weight_piece};
+ghost use Rattle.smodels_format.specs.Written.{body_words, item_words};
+ghost use Rattle.smodels_format.specs.private.Writing.{has_sign, atom_piece, weight_piece};
 ghost use Rattle.smodels_format.specs.declared.sign.Sign.TheVariants.{Negative, Positive};
 
 use crate::sign::Sign;
@@ -15,7 +15,7 @@ use asp_base::{Lit, Memory};
 use statement_fields::{push_count, push_field};
 
 /// Whether the literal has this sign.
-pub fn has_sign(lit: Lit, sign: Sign) -> bool
+pub(crate) fn has_sign(lit: Lit, sign: Sign) -> bool
     ensures { result ≡ has_sign sign lit }
 {
     match sign {
@@ -25,7 +25,7 @@ pub fn has_sign(lit: Lit, sign: Sign) -> bool
 }
 
 /// Appends an atom.
-pub fn push_atom_field(out: &mut Vec<u8>, atom: u32) -> Result<(), Memory>
+pub(crate) fn push_atom_field(out: &mut Vec<u8>, atom: u32) -> Result<(), Memory>
     ensures ok { OnOk result (out.new.items ≡ out.old.items ++ (32 ∷ decimal atom)) }
     ensures err { OnErr result (take (length out.old.items) out.new.items ≡ out.old.items) }
 {
@@ -33,7 +33,7 @@ pub fn push_atom_field(out: &mut Vec<u8>, atom: u32) -> Result<(), Memory>
 }
 
 /// Appends how many literals there are, how many of them are negative, and their atoms.
-pub fn push_literals(out: &mut Vec<u8>, lits: &[Lit]) -> Result<(), Memory>
+pub(crate) fn push_literals(out: &mut Vec<u8>, lits: &[Lit]) -> Result<(), Memory>
     ensures ok { OnOk result (out.new.items ≡ out.old.items ++ spaced_before (body_words (negatives_first lits.now))) }
     ensures err { OnErr result (take (length out.old.items) out.new.items ≡ out.old.items) }
 {
@@ -43,9 +43,11 @@ pub fn push_literals(out: &mut Vec<u8>, lits: &[Lit]) -> Result<(), Memory>
     push_atoms_of(out, lits, Sign::Positive)
 }
 
-/// Appends how many items there are, how many of them have negative literals, the atoms of their literals, and their weights.
-pub fn push_items(out: &mut Vec<u8>, items: &[(Lit, i64)]) -> Result<(), Memory>
-    ensures ok { OnOk result (out.new.items ≡ out.old.items ++ spaced_before (item_words (items_negatives_first items.now))) }
+/// Appends how many items there are, how many of them have negative literals, the atoms of their literals, and
+/// their weights.
+pub(crate) fn push_items(out: &mut Vec<u8>, items: &[(Lit, i64)]) -> Result<(), Memory>
+    ensures ok { OnOk result (out.new.items ≡ out.old.items
+        ++ spaced_before (item_words (items_negatives_first items.now))) }
     ensures err { OnErr result (take (length out.old.items) out.new.items ≡ out.old.items) }
 {
     push_item_counts(out, items)?;
@@ -53,7 +55,11 @@ pub fn push_items(out: &mut Vec<u8>, items: &[(Lit, i64)]) -> Result<(), Memory>
 }
 
 fn push_atoms_and_weights(out: &mut Vec<u8>, items: &[(Lit, i64)]) -> Result<(), Memory>
-    ensures ok { OnOk result (out.new.items ≡ out.old.items ++ (flat_map (λ item. atom_piece Negative item.0) items.now ++ (flat_map (λ item. atom_piece Positive item.0) items.now ++ (flat_map (λ item. weight_piece Negative item) items.now ++ flat_map (λ item. weight_piece Positive item) items.now)))) }
+    ensures ok { OnOk result (out.new.items ≡ out.old.items
+        ++ (flat_map (λ item. atom_piece Negative item.0) items.now
+        ++ (flat_map (λ item. atom_piece Positive item.0) items.now
+        ++ (flat_map (λ item. weight_piece Negative item) items.now
+        ++ flat_map (λ item. weight_piece Positive item) items.now)))) }
     ensures err { OnErr result (take (length out.old.items) out.new.items ≡ out.old.items) }
 {
     push_item_atoms(out, items, Sign::Negative)?;
@@ -63,7 +69,9 @@ fn push_atoms_and_weights(out: &mut Vec<u8>, items: &[(Lit, i64)]) -> Result<(),
 }
 
 fn push_item_counts(out: &mut Vec<u8>, items: &[(Lit, i64)]) -> Result<(), Memory>
-    ensures ok { OnOk result (out.new.items ≡ out.old.items ++ spaced_before (decimal (length items.now) ∷ decimal (count_by (λ item. has_sign Negative item.0) items.now) ∷ [])) }
+    ensures ok { OnOk result (out.new.items ≡ out.old.items
+        ++ spaced_before (decimal (length items.now)
+        ∷ decimal (count_by (λ item. has_sign Negative item.0) items.now) ∷ [])) }
     ensures err { OnErr result (take (length out.old.items) out.new.items ≡ out.old.items) }
 {
     push_count(out, items.len())?;

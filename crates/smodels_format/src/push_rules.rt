@@ -1,5 +1,5 @@
-//! Rules as they are written, each in its line. After `Memory` more may stand behind the text that was there; this holds of each
-//! function here.
+//! Rules as they are written, each in its line. After `Memory` more may stand behind the text that was there; this
+//! holds of each function here.
 
 ghost use Rattle.std.specs.Prelude.{◌≡◌, ℕ, ◌+◌, ◌≤◌, ◌<◌, ◌^◌, [], ◌∷◌, ◌++◌, length, take, cond, codes, OnOk, OnErr};
 ghost use Rattle.std.specs.List.{flat_map};
@@ -9,7 +9,7 @@ ghost use Rattle.statement_fields.specs.FieldWords.{atom_words};
 ghost use Rattle.ground_program.specs.Fresh.{new_atom};
 ghost use Rattle.ground_program.specs.declared.program.Head.TheVariants.{One};
 ghost use Rattle.smodels_format.specs.Lowering.{negatives_first, items_negatives_first, at_least_zero, body_in_order, body_draws, rule_draws, after_rules, choice_lowered, rule_lowered, rules_lowered};
-ghost use Rattle.smodels_format.specs.SmodelsText.{body_words, item_words, rule_words, rule_line};
+ghost use Rattle.smodels_format.specs.Written.{body_words, item_words, rule_words, rule_line};
 
 use crate::new_atoms::NewAtoms;
 use crate::push_bodies::{push_atom_field, push_items, push_literals};
@@ -17,15 +17,17 @@ use asp_base::{Lit, Memory};
 use ground_program::{Body, Head, Rule};
 use statement_fields::{push_atoms, push_field};
 
-/// Appends the lines of the rules. Rules without head get the refuted atom as theirs, and choices over weights a new atom each.
-pub fn push_rules(
+/// Appends the lines of the rules. Rules without head get the refuted atom as theirs, and choices over weights a new
+/// atom each.
+pub(crate) fn push_rules(
     out: &mut Vec<u8>,
     atoms: &mut NewAtoms,
     refuted: u32,
     rules: &[Rule],
 ) -> Result<(), Memory>
     requires { length atoms.old.atoms + atoms.old.drawn + length rules.now ≤ 2 ^ 30 }
-    ensures ok { OnOk result (out.new.items ≡ out.old.items ++ flat_map rule_line (rules_lowered (new_atom atoms.old.atoms) refuted atoms.old.drawn rules.now)) }
+    ensures ok { OnOk result (out.new.items ≡ out.old.items
+        ++ flat_map rule_line (rules_lowered (new_atom atoms.old.atoms) refuted atoms.old.drawn rules.now)) }
     ensures drawn { OnOk result (atoms.new ≡ record atoms.old { drawn = after_rules atoms.old.drawn rules.now }) }
     ensures err { OnErr result (take (length out.old.items) out.new.items ≡ out.old.items) }
 {
@@ -42,8 +44,11 @@ fn push_rule(
     rule: &Rule,
 ) -> Result<(), Memory>
     requires { length atoms.old.atoms + atoms.old.drawn < 2 ^ 30 }
-    ensures ok { OnOk result (out.new.items ≡ out.old.items ++ flat_map rule_line (rule_lowered (new_atom atoms.old.atoms) refuted atoms.old.drawn rule.now.head rule.now.body)) }
-    ensures drawn { OnOk result (atoms.new ≡ record atoms.old { drawn = atoms.old.drawn + rule_draws rule.now.head rule.now.body }) }
+    ensures ok { OnOk result (out.new.items ≡ out.old.items
+        ++ flat_map rule_line
+        (rule_lowered (new_atom atoms.old.atoms) refuted atoms.old.drawn rule.now.head rule.now.body)) }
+    ensures drawn { OnOk result
+        (atoms.new ≡ record atoms.old { drawn = atoms.old.drawn + rule_draws rule.now.head rule.now.body }) }
     ensures err { OnErr result (take (length out.old.items) out.new.items ≡ out.old.items) }
 {
     match &rule.head {
@@ -55,7 +60,8 @@ fn push_rule(
 
 /// Appends a rule with one atom as its head.
 fn push_headed(out: &mut Vec<u8>, atom: u32, body: &Body) -> Result<(), Memory>
-    ensures ok { OnOk result (out.new.items ≡ out.old.items ++ line_of (rule_words (One atom) (body_in_order body.now))) }
+    ensures ok { OnOk result (out.new.items ≡ out.old.items
+        ++ line_of (rule_words (One atom) (body_in_order body.now))) }
     ensures err { OnErr result (take (length out.old.items) out.new.items ≡ out.old.items) }
 {
     match body {
@@ -72,7 +78,8 @@ fn push_choice_rule(
     body: &Body,
 ) -> Result<(), Memory>
     requires { length atoms.old.atoms + atoms.old.drawn < 2 ^ 30 }
-    ensures ok { OnOk result (out.new.items ≡ out.old.items ++ flat_map rule_line (choice_lowered (new_atom atoms.old.atoms) 0 atoms.old.drawn heads.now body.now)) }
+    ensures ok { OnOk result (out.new.items ≡ out.old.items
+        ++ flat_map rule_line (choice_lowered (new_atom atoms.old.atoms) 0 atoms.old.drawn heads.now body.now)) }
     ensures drawn { OnOk result (atoms.new ≡ record atoms.old { drawn = atoms.old.drawn + body_draws body.now }) }
     ensures err { OnErr result (take (length out.old.items) out.new.items ≡ out.old.items) }
 {
@@ -87,8 +94,9 @@ fn push_choice_rule(
 }
 
 /// Appends a rule with one atom as its head, over literals.
-pub fn push_basic(out: &mut Vec<u8>, atom: u32, lits: &[Lit]) -> Result<(), Memory>
-    ensures ok { OnOk result (out.new.items ≡ out.old.items ++ line_of (codes "1" ∷ decimal atom ∷ body_words (negatives_first lits.now))) }
+pub(crate) fn push_basic(out: &mut Vec<u8>, atom: u32, lits: &[Lit]) -> Result<(), Memory>
+    ensures ok { OnOk result (out.new.items ≡ out.old.items
+        ++ line_of (codes "1" ∷ decimal atom ∷ body_words (negatives_first lits.now))) }
     ensures err { OnErr result (take (length out.old.items) out.new.items ≡ out.old.items) }
 {
     out.push(b'1')?;
@@ -105,7 +113,9 @@ fn push_weight_rule(
     bound: i64,
     items: &[(Lit, i64)],
 ) -> Result<(), Memory>
-    ensures ok { OnOk result (out.new.items ≡ out.old.items ++ line_of (codes "5" ∷ decimal atom ∷ signed_decimal (at_least_zero bound) ∷ item_words (items_negatives_first items.now))) }
+    ensures ok { OnOk result (out.new.items ≡ out.old.items
+        ++ line_of (codes "5" ∷ decimal atom ∷ signed_decimal (at_least_zero bound)
+        ∷ item_words (items_negatives_first items.now))) }
     ensures err { OnErr result (take (length out.old.items) out.new.items ≡ out.old.items) }
 {
     out.push(b'5')?;
@@ -129,7 +139,8 @@ fn push_bound(out: &mut Vec<u8>, bound: i64) -> Result<(), Memory>
 
 /// Appends a choice over literals.
 fn push_choice(out: &mut Vec<u8>, heads: &[u32], lits: &[Lit]) -> Result<(), Memory>
-    ensures ok { OnOk result (out.new.items ≡ out.old.items ++ line_of (codes "3" ∷ (atom_words heads.now ++ body_words (negatives_first lits.now)))) }
+    ensures ok { OnOk result (out.new.items ≡ out.old.items
+        ++ line_of (codes "3" ∷ (atom_words heads.now ++ body_words (negatives_first lits.now)))) }
     ensures err { OnErr result (take (length out.old.items) out.new.items ≡ out.old.items) }
 {
     out.push(b'3')?;

@@ -1,9 +1,11 @@
+//! Lines of the rules. What follows the number of a rule's type goes to the builder when its line has ended.
+
 ghost use Rattle.std.specs.Prelude.{◌≡◌, ◌≤◌, ◌<◌, ◌+◌, ◌^◌, pos, length, Ok, Err, IfOk, OnOk, IfErr};
 ghost use Rattle.ground_program.specs.Draft.{with_rule};
 ghost use Rattle.ground_program.specs.Facts.{IsAtom, HeadFits, BodyFits};
 ghost use Rattle.statement_fields.specs.Fields.{ended, Faults};
-ghost use Rattle.smodels_format.specs.Smodels.{basic_rule, constraint_rule, choice_rule, weight_rule, minimize, head_of, disjunctive_rule, by_type, rule_entry};
-ghost use Rattle.smodels_format.specs.Steps.{rule_said, levels_added};
+ghost use Rattle.smodels_format.specs.Read.{basic_rule, constraint_rule, choice_rule, weight_rule, minimize, head_of, disjunctive_rule, by_type, rule_entry};
+ghost use Rattle.smodels_format.specs.private.Steps.{rule_said, levels_added};
 
 use crate::body::{count_body, items, plain_body, weight_body};
 use asp_scan::Scan;
@@ -13,14 +15,14 @@ use std::alloc::Global;
 
 /// What a line of the rules was.
 #[derive(Clone, Copy)]
-pub enum RuleLine {
+pub(crate) enum RuleLine {
     Rule,
     Minimize,
     End,
 }
 
 /// A line of the rules: the type of a rule, and what stands behind it. So many levels were added before.
-pub fn rule_line(
+pub(crate) fn rule_line(
     alloc: Global,
     scan: &mut Scan<'_>,
     builder: &mut ProgramBuilder,
@@ -177,8 +179,10 @@ fn add_rule(
 ) -> Result<(), FieldFault>
     requires head { HeadFits IsAtom head }
     requires body { BodyFits IsAtom body }
-    ensures ok { OnOk result (ended (with_rule (record { head = head; body = body }) builder.old) scan.now.left ≡ Ok builder.new) }
-    ensures err { IfErr result (λ fault. Faults (ended (with_rule (record { head = head; body = body }) builder.old) scan.now.left) fault) }
+    ensures ok { OnOk result (ended (with_rule (record { head = head; body = body }) builder.old) scan.now.left
+        ≡ Ok builder.new) }
+    ensures err { IfErr result (λ fault.
+        Faults (ended (with_rule (record { head = head; body = body }) builder.old) scan.now.left) fault) }
     ensures levels { OnOk result (builder.new.levels ≡ builder.old.levels) }
 {
     ended(scan)?;

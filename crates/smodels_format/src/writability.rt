@@ -1,3 +1,5 @@
+//! The test for programs that smodels text can say.
+
 ghost use Rattle.std.specs.Prelude.{◌≡◌, pos, int_le};
 ghost use Rattle.std.specs.List.{list_all};
 ghost use Rattle.asp_scan.specs.Lines.{is_blank};

@@ -5,12 +5,13 @@ use Rattle.asp_scan.specs.Tokens.{token_at, tokens, integer_of, checked, with_re
 use Rattle.asp_scan.specs.declared.scan.ScanFault.{ScanFault}
 use Rattle.asp_scan.specs.declared.scan.ScanFault.TheVariants as scan
 use Rattle.asp_scan.proofs.LineTokens.{token_at-shorter, tokens-some, token_at-token}
-use Rattle.ground_program.specs.Reading.{fault}
+use Rattle.asp_base.specs.Faults.{fault}
 use Rattle.ground_program.specs.declared.reading.ReadKind.{ReadKind}
 use Rattle.ground_program.specs.declared.reading.ReadKind.TheVariants as kinds
-use Rattle.statement_fields.specs.Fields.{Reading, ◌>>=◌, unless, lifted, above, natural, atom}
+use Rattle.statement_fields.specs.Fields.{Reading, unless, lifted, above, natural, atom}
 use Rattle.stable_check.specs.AtomsText.{atoms_of_tokens}
-use Rattle.stable_check.specs.Gathering.{onto, on_line}
+use Rattle.stable_check.specs.private.Gathering.{onto}
+use Rattle.asp_base.specs.Faults.{at_line, ◌>>=◌}
 
 -- ---- one token
 
@@ -107,7 +108,7 @@ onto-fault front (Err f) e h = h
 
 -- the fault of an atom is that of the line
 pub atoms-fault : (front start line : List ℕ) (now : List ℕ) (n m : ℕ) (kind : ReadKind) → onto now (atoms_of_tokens (tokens line)) ≡ onto front (atoms_of_tokens (tokens start))
-    → IsSome (token_at line) → atom line ≡ Err kind → n ≡ m → on_line m (atoms_of_tokens (tokens start)) ≡ fault n kind
+    → IsSome (token_at line) → atom line ≡ Err kind → n ≡ m → at_line m (atoms_of_tokens (tokens start)) ≡ fault n kind
 atoms-fault front start line now n m kind same some e at =
-    ap (on_line m) (onto-fault front (atoms_of_tokens (tokens start)) kind (sym same ∙ ap (onto now) (line-fault line kind some e)))
+    ap (at_line m) (onto-fault front (atoms_of_tokens (tokens start)) kind (sym same ∙ ap (onto now) (line-fault line kind some e)))
     ∙ ap (λ k. fault k kind) (sym at)

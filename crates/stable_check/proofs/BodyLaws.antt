@@ -14,8 +14,8 @@ use Rattle.ground_program.specs.declared.program.Head.TheVariants.{Nothing, One,
 use Rattle.ground_program.specs.declared.program.Body.{Body}
 use Rattle.ground_program.specs.declared.program.Body.TheVariants.{All, Sum}
 use Rattle.ground_program.specs.declared.program.Rule.{Rule}
-use Rattle.stable_check.specs.Lack.{natural, one_each, naturals, weighed, asks, total, lack}
-use Rattle.stable_check.proofs.Elements.{each-weaker}
+use Rattle.stable_check.specs.private.Lack.{natural, one_each, naturals, weighed, asks, total, lack}
+use Rattle.asp_base.proofs.Each.{each-weaker}
 
 -- ---- what a body lacks
 

@@ -4,9 +4,9 @@ use Rattle.std.specs.List.{AllByRecursion}
 use Rattle.std.proofs.lemmas.Bool.{cond_both, cases_eq, cases_lt, or_left, or_right, or_cases, true≢false, eq-eqb, and_parts, eqb-true, ltb-true, and_right, ne_eqb, lt-ltb, cond-true, and_from}
 use Rattle.std.proofs.lemmas.List.{set_past, get_or_past, get_or-set_same, get_or-set_other, get_or_default, length_push}
 use Rattle.asp_base.specs.Sets.{members}
-use Rattle.stable_check.specs.Links.{Entry}
-use Rattle.stable_check.specs.Growth.{Counts, comes_to_zero, take_off, take_off_all}
-use Rattle.stable_check.proofs.Elements.{each-weaker, each-push}
+use Rattle.stable_check.specs.private.Links.{Entry}
+use Rattle.stable_check.specs.private.Growth.{Counts, comes_to_zero, take_off, take_off_all}
+use Rattle.asp_base.proofs.Each.{each-weaker, each-push}
 
 members-push : (xs : List ℕ) (x : ℕ) → members (xs ++ (x ∷ [])) x ≡ true
 members-push [] x = or_left _ _ (eq-eqb x x refl)

@@ -5,18 +5,19 @@ use Rattle.std.proofs.lemmas.Bool.{and_parts, and_from, or_cases, or_left, or_ri
 use Rattle.std.proofs.lemmas.List.{get_or_default, get_or-map, get_or_past, length-map}
 use Rattle.asp_base.specs.Sets.{Set, members, none, Within}
 use Rattle.ground_program.specs.Closed.{HasWeights, Weighed, Closed}
-use Rattle.ground_program.specs.Facts.{RisesFrom, Among, RuleFits, HeadFits}
-use Rattle.ground_program.specs.Occurrences.{place}
+use Rattle.ground_program.specs.Facts.{Among, RuleFits, HeadFits}
+use Rattle.rising_numbers.specs.Rising.{RisesFrom}
+use Rattle.rising_numbers.specs.Rising.{place}
 use Rattle.ground_program.specs.Stable.{holds, head_has, derives, grown}
 use Rattle.ground_program.specs.declared.program.Head.{Head}
 use Rattle.ground_program.specs.declared.program.Head.TheVariants.{Nothing, One, Choice}
 use Rattle.ground_program.specs.declared.program.Rule.{Rule}
 use Rattle.ground_program.proofs.Least.{grown-closed, grown-smallest, holds-mono, same_within}
-use Rattle.stable_check.specs.Lack.{lack, flag, zeros}
-use Rattle.stable_check.specs.Links.{Entry, with_rules}
-use Rattle.stable_check.specs.Growth.{Counts, take_off_all, Growing, derive, derive_if_chosen, derive_chosen, derive_head}
-use Rattle.stable_check.specs.UnderWay.{IsMet, IsUnderWay}
-use Rattle.stable_check.proofs.Elements.{each, map-same, each-get}
+use Rattle.stable_check.specs.private.Lack.{lack, flag, zeros}
+use Rattle.stable_check.specs.private.Links.{Entry, with_rules}
+use Rattle.stable_check.specs.private.Growth.{Counts, take_off_all, Growing, derive, derive_if_chosen, derive_chosen, derive_head}
+use Rattle.stable_check.specs.private.UnderWay.{IsMet, IsUnderWay}
+use Rattle.asp_base.proofs.Each.{each, map-same, each-get}
 use Rattle.stable_check.proofs.BodyLaws.{holds-from_lack, lack-from_holds, weighed-rules}
 use Rattle.stable_check.proofs.CountLaws.{Lacks, Covers, covers-take_off_all, ready-take_off_all}
 use Rattle.stable_check.proofs.PlaceLaws.{get-at_place, set-at_place}
@@ -84,6 +85,7 @@ module _ (atoms : List ℕ) (rules : List Rule) (chosen : List Bool) (rise : Ris
       let row : get_or table i [] ≡ row_of a 0 rules [] = ap (λ rows. get_or rows i []) table-is ∙ get-at_place 0 atoms (λ x. row_of x 0 rules []) a [] rise among in
       record {
         state = record {
+          rise = rise;
           so_far = insert a s.so_far;
           derived = ap (λ ds. set ds i true) s.derived ∙ set-at_place 0 atoms s.so_far a true rise among
               ∙ map-same (λ x. cond (x == a) true (s.so_far x)) (insert a s.so_far) atoms (each _ (λ x. ap (λ b. cond b true (s.so_far x)) (flip-eq x a)) atoms);
@@ -172,6 +174,7 @@ module _ (atoms : List ℕ) (rules : List Rule) (chosen : List Bool) (rise : Ris
   popped : (g : Growing) (ready : List ℕ) (r : ℕ) → g.counts.ready ≡ ready ++ (r ∷ []) → IsUnderWay atoms rules M (λ k. ⊥) g →
       IsUnderWay atoms rules M (λ k. k ≡ r) (record { derived = g.derived; counts = record { lacks = g.counts.lacks; ready = ready } })
   popped g ready r was s = record {
+    rise = rise;
     so_far = s.so_far;
     derived = s.derived;
     lacks = s.lacks;
@@ -199,6 +202,7 @@ module _ (atoms : List ℕ) (rules : List Rule) (chosen : List Bool) (rise : Ris
       let met-now : IsMet rules M k.state.so_far r = λ other other-is a e. k.has a (subst (λ (rule : Rule). head_has rule.head M a ≡ true)
       (other-is ∙ get_or_default rules r other rule within ∙ sym is) e) in
       record {
+        rise = rise;
         so_far = k.state.so_far;
         derived = k.state.derived;
         lacks = k.state.lacks;
@@ -244,6 +248,7 @@ module _ (atoms : List ℕ) (rules : List Rule) (chosen : List Bool) (rise : Ris
   pub under-way_first : IsUnderWay atoms rules M (λ k. ⊥)
       (record { derived = replicate (length atoms) false; counts = record { lacks = map (lack none M) rules; ready = zeros 0 (map (lack none M) rules) } })
   under-way_first = record {
+    rise = rise;
     so_far = none;
     derived = replicate-map atoms false;
     lacks = refl;

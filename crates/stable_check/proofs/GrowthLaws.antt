@@ -3,13 +3,13 @@ use Rattle.std.proofs.Common.{◌≡◌, refl, sym, ◌∙◌, ap, ℕ, ◌+◌,
 use Rattle.std.proofs.lemmas.Bool.{cond_both}
 use Rattle.std.proofs.lemmas.List.{length-set, drop_more}
 use Rattle.asp_base.specs.Literal.{Literal, Pos, Neg}
-use Rattle.ground_program.specs.Occurrences.{place}
+use Rattle.rising_numbers.specs.Rising.{place}
 use Rattle.ground_program.specs.declared.program.Head.{Head}
 use Rattle.ground_program.specs.declared.program.Head.TheVariants.{Nothing, One, Choice}
 use Rattle.ground_program.specs.declared.program.Rule.{Rule}
-use Rattle.stable_check.specs.Lack.{flag, weighed}
-use Rattle.stable_check.specs.Links.{Entry, with_literal, with_items, with_rules}
-use Rattle.stable_check.specs.Growth.{Counts, take_off, take_off_all, Growing, derive, derive_if_chosen, derive_chosen, derive_head}
+use Rattle.stable_check.specs.private.Lack.{flag, weighed}
+use Rattle.stable_check.specs.private.Links.{Entry, with_literal, with_items, with_rules}
+use Rattle.stable_check.specs.private.Growth.{Counts, take_off, take_off_all, Growing, derive, derive_if_chosen, derive_chosen, derive_head}
 use Rattle.stable_check.proofs.CountLaws.{left, left-take_off_all}
 
 pub length-with_literal : (atoms : List ℕ) (rule weight : ℕ) (l : Literal) (rows : List (List Entry)) → length (with_literal atoms rule weight l rows) ≡ length rows

@@ -2,13 +2,14 @@
 use Rattle.std.proofs.Common.{◌≡◌, ◌∙◌, ap, ℕ, ◌-◌, Bool, true, false, List, map, get_or}
 use Rattle.std.specs.List.{AllByRecursion}
 use Rattle.asp_base.specs.Sets.{Set, members, none}
-use Rattle.ground_program.specs.Facts.{RisesFrom, Among, RuleFits}
-use Rattle.ground_program.specs.Occurrences.{place}
+use Rattle.ground_program.specs.Facts.{Among, RuleFits}
+use Rattle.rising_numbers.specs.Rising.{RisesFrom}
+use Rattle.rising_numbers.specs.Rising.{place}
 use Rattle.ground_program.specs.Stable.{grown}
 use Rattle.ground_program.specs.declared.program.Rule.{Rule}
-use Rattle.stable_check.specs.Lack.{flag}
+use Rattle.stable_check.specs.private.Lack.{flag}
 use Rattle.stable_check.proofs.BodyLaws.{grown-agrees}
-use Rattle.stable_check.proofs.Elements.{each, map-same}
+use Rattle.asp_base.proofs.Each.{each, map-same}
 use Rattle.stable_check.proofs.PlaceLaws.{get-at_place}
 
 pub flag-is : (atoms : List ℕ) (flags : List Bool) (M : Set) → RisesFrom 0 atoms → flags ≡ map M atoms → (a : ℕ) → members atoms a ≡ true → flag atoms flags a ≡ M a

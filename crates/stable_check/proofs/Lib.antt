@@ -1,11 +1,7 @@
 mod AtomSteps
 pub mod BodyLaws
-pub mod Costs
 pub mod CountLaws
 pub mod Derivation
-pub mod Each
-pub mod Elements
-pub mod FirstOnes
 pub mod GrowthLaws
 pub mod LeastLaws
 pub mod LinkLaws

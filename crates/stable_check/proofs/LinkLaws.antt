@@ -4,8 +4,8 @@ use Rattle.std.specs.List.{AllByRecursion}
 use Rattle.std.proofs.lemmas.Bool.{cases_eq, eq-eqb, ne_eqb, cond-true, cond-false}
 use Rattle.std.proofs.lemmas.List.{map-set, get_or-map, reverse-append, length-reverse, get_or-reverse, length-append, length-map}
 use Rattle.stable_check.specs.declared.occurrences.Link.{Link}
-use Rattle.stable_check.specs.Links.{Entry, chain, LeadBack, rows_of, with_entry, AreLinked}
-use Rattle.stable_check.proofs.Elements.{each-set, each-get, each-weaker, each-push, map-same}
+use Rattle.stable_check.specs.private.Links.{Entry, chain, LeadBack, rows_of, with_entry, AreLinked}
+use Rattle.asp_base.proofs.Each.{each-set, each-get, each-weaker, each-push, map-same}
 
 -- from a link that is not the newest
 pub chain-older : (link : Link) (older : List Link) (at : ℕ) → at ≤ length older → chain (link ∷ older) at ≡ chain older at

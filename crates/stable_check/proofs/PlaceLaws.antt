@@ -2,10 +2,10 @@
 use Rattle.std.proofs.Common.{◌≡◌, refl, sym, ◌∙◌, ap, ap₂, ℕ, suc, ◌-◌, ◌<◌, ◌≤◌, ◌==◌, true, cond, List, [], ◌∷◌, length, map, set, get_or, ⊎_elim, arith}
 use Rattle.std.proofs.lemmas.Bool.{or_cases, true≢false, eqb-true, ne_eqb, cond-true, cond-false}
 use Rattle.asp_base.specs.Sets.{members}
-use Rattle.ground_program.specs.Facts.{RisesFrom}
-use Rattle.ground_program.specs.Occurrences.{place}
-use Rattle.ground_program.proofs.PlaceLaws.{place-within}
-use Rattle.ground_program.proofs.RisingLaws.{members-above}
+use Rattle.rising_numbers.specs.Rising.{RisesFrom}
+use Rattle.rising_numbers.specs.Rising.{place}
+use Rattle.rising_numbers.proofs.PlaceLaws.{place-within}
+use Rattle.rising_numbers.proofs.RisingLaws.{members-above}
 
 place-first : (x : ℕ) (xs : List ℕ) (a : ℕ) → (x == a) ≡ true → place (x ∷ xs) a - 1 ≡ 0
 place-first x xs a here = ap (λ n. n - 1) (cond-true (x == a) 1 (cond (members xs a) (suc (place xs a)) 0) here)

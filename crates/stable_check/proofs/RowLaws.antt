@@ -5,15 +5,16 @@ use Rattle.std.proofs.lemmas.Bool.{cond_both, eqb-true, cond-true, cond-false, t
 use Rattle.std.proofs.lemmas.List.{set-get_or, set-set, get_or-set_same, get_or_at, set_at, length-append}
 use Rattle.asp_base.specs.Literal.{Literal, Pos, Neg, atom_of, literal_holds}
 use Rattle.asp_base.specs.Sets.{Set}
-use Rattle.ground_program.specs.Facts.{RisesFrom, Among, RuleFits, BodyFits, FitsBodyWeight}
-use Rattle.ground_program.specs.Occurrences.{place}
+use Rattle.ground_program.specs.Facts.{Among, RuleFits, BodyFits, FitsBodyWeight}
+use Rattle.rising_numbers.specs.Rising.{RisesFrom}
+use Rattle.rising_numbers.specs.Rising.{place}
 use Rattle.ground_program.specs.declared.program.Body.{Body}
 use Rattle.ground_program.specs.declared.program.Body.TheVariants.{All, Sum}
 use Rattle.ground_program.specs.declared.program.Rule.{Rule}
-use Rattle.stable_check.specs.Lack.{one_each, naturals, weighed, total, lack}
-use Rattle.stable_check.specs.Links.{Entry, with_literal, with_items, with_rules}
-use Rattle.stable_check.specs.Growth.{Counts, take_off, take_off_all}
-use Rattle.stable_check.proofs.Elements.{each, map-same}
+use Rattle.stable_check.specs.private.Lack.{one_each, naturals, weighed, total, lack}
+use Rattle.stable_check.specs.private.Links.{Entry, with_literal, with_items, with_rules}
+use Rattle.stable_check.specs.private.Growth.{Counts, take_off, take_off_all}
+use Rattle.asp_base.proofs.Each.{each, map-same}
 use Rattle.stable_check.proofs.GrowthLaws.{length-with_items}
 use Rattle.stable_check.proofs.PlaceLaws.{get-at_place, set-at_place}
 

@@ -12,22 +12,23 @@ use Rattle.asp_base.specs.Sets.{Set, members, Within}
 use Rattle.asp_base.specs.Walks.{Acyclic}
 use Rattle.graph_cycles.specs.Cycle.{leads, IsCycle}
 use Rattle.ground_program.specs.Broken.{breaks}
-use Rattle.ground_program.specs.Facts.{IsProgram, RisesFrom, FitsBodyWeight}
+use Rattle.ground_program.specs.Facts.{IsProgram, FitsBodyWeight}
+use Rattle.rising_numbers.specs.Rising.{RisesFrom}
 use Rattle.ground_program.specs.Ground.{Ground}
-use Rattle.ground_program.specs.Occurrences.{rising, into_rising}
+use Rattle.rising_numbers.specs.Rising.{rising, into_rising}
 use Rattle.ground_program.specs.Stable.{weight_of, least, Stable, joined, edge_joins}
 use Rattle.ground_program.specs.declared.program.Edge.{Edge}
 use Rattle.ground_program.proofs.BrokenLaws.{unbroken-stable, stable-unbroken}
 use Rattle.ground_program.proofs.FactLaws.{least-among}
-use Rattle.ground_program.proofs.Least.{same_tests}
-use Rattle.ground_program.proofs.RisingLaws.{Ascends, Ascends-from_increasing, RisesFrom-lower, into-lower}
+use Rattle.asp_base.proofs.Bools.{same_test}
+use Rattle.rising_numbers.proofs.RisingLaws.{Ascends, Ascends-from_increasing, RisesFrom-lower, into-lower}
 use Rattle.stable_check.specs.declared.verdict.Verdict.{Verdict}
 use Rattle.stable_check.specs.declared.verdict.Verdict.TheVariants as verdicts
-use Rattle.stable_check.specs.Lack.{natural, naturals, total, flag}
-use Rattle.stable_check.specs.Parts.{pairs, flagged}
+use Rattle.stable_check.specs.private.Lack.{natural, naturals, total, flag}
+use Rattle.stable_check.specs.private.Parts.{pairs, flagged}
 use Rattle.stable_check.specs.Verdicts.{first_where, first_broken, first_failing, unfounded, IsFounded, VerdictIs}
 use Rattle.stable_check.proofs.BodyLaws.{weight-total, bound-reached, reached-bound}
-use Rattle.stable_check.proofs.Elements.{each-weaker}
+use Rattle.asp_base.proofs.Each.{each-weaker}
 use Rattle.stable_check.proofs.LeastLaws.{flag-is}
 
 -- ---- sums
@@ -36,7 +37,7 @@ pub sum-test : (bound : ℤ) (items : List (Literal × ℤ)) (X M : Set) → All
     (natural bound - total (naturals items) X M == 0) ≡ int_le bound (weight_of items X M)
 sum-test bound items X M fit =
     let weight : weight_of items X M ≡ pos (total (naturals items) X M) = weight-total items X M (each-weaker _ _ (λ item k. k.0) items fit) in
-    same_tests _ _
+    same_test _ _
     (λ e. ap (int_le bound) weight ∙ bound-reached bound (total (naturals items) X M) (eqb-true (natural bound - total (naturals items) X M) 0 e))
     (λ e. eq-eqb (natural bound - total (naturals items) X M) 0 (reached-bound bound (total (naturals items) X M) (ap (int_le bound) (sym weight) ∙ e)))
 

@@ -1,11 +1,11 @@
 -- A text of atoms: numbers over any number of lines.
-use Rattle.std.specs.Prelude.{ℕ, List, [], ◌∷◌, ◌++◌, Result, Ok, Err}
+use Rattle.std.specs.Prelude.{ℕ, List, [], ◌∷◌, ◌++◌, Result, Ok}
 use Rattle.asp_scan.specs.Lines.{Line, lines_of}
 use Rattle.asp_scan.specs.Tokens.{tokens}
-use Rattle.ground_program.specs.Occurrences.{rising}
-use Rattle.ground_program.specs.Reading.{Fault, fault}
+use Rattle.rising_numbers.specs.Rising.{rising}
+use Rattle.asp_base.specs.Faults.{Fault, at_line, ◌>>=◌}
 use Rattle.ground_program.specs.declared.reading.ReadKind.{ReadKind}
-use Rattle.statement_fields.specs.Fields.{◌>>=◌, atom}
+use Rattle.statement_fields.specs.Fields.{atom}
 
 -- each token is an atom
 abbrev pub atoms_of_tokens : List (List ℕ) → Result (List ℕ) ReadKind
@@ -15,13 +15,16 @@ atoms_of_tokens (token ∷ rest) = do
   more ← atoms_of_tokens rest
   Ok (a.0 ∷ more)
 
-abbrev pub atoms_of_lines : List Line → Result (List ℕ) Fault
+-- and the lines of a text stand in their order
+abbrev pub atoms_of_lines : List Line → Result (List ℕ) (Fault ReadKind)
 atoms_of_lines [] = Ok []
-atoms_of_lines (line ∷ lines) = elim (atoms_of_tokens (tokens line.bytes)) [
-  | Err kind ↦ fault line.number kind
-  | Ok atoms ↦ elim (atoms_of_lines lines) [ Err found ↦ Err found | Ok more ↦ Ok (atoms ++ more) ]
-]
+atoms_of_lines (line ∷ lines) = do
+  atoms ← at_line line.number (atoms_of_tokens (tokens line.bytes))
+  more ← atoms_of_lines lines
+  Ok (atoms ++ more)
 
 -- the set of the atoms that the text names, or its first fault
-abbrev pub atoms_of : List ℕ → Result (List ℕ) Fault
-atoms_of text = elim (atoms_of_lines (lines_of text)) [ Err found ↦ Err found | Ok atoms ↦ Ok (rising atoms) ]
+abbrev pub atoms_of : List ℕ → Result (List ℕ) (Fault ReadKind)
+atoms_of text = do
+  atoms ← atoms_of_lines (lines_of text)
+  Ok (rising atoms)

@@ -1,9 +1,3 @@
 pub mod AtomsText
-pub mod Gathering
-pub mod Growth
-pub mod Lack
-pub mod Links
-pub mod Names
-pub mod Parts
-pub mod UnderWay
 pub mod Verdicts
+pub mod private

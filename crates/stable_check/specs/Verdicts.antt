@@ -42,7 +42,10 @@ pub record IsFounded (P : Ground) (atoms : List ℕ) : Type 0 where
 -- The verdict on the set of these atoms: the first that applies.
 abbrev pub VerdictIs : Ground → List ℕ → Verdict → Type 0
 VerdictIs P atoms (verdicts.BrokenRule place) = first_broken P (members atoms) ≡ Some place
-VerdictIs P atoms (verdicts.BrokenRequirement place) = (first_broken P (members atoms) ≡ None) × (first_failing P (members atoms) ≡ Some place)
-VerdictIs P atoms (verdicts.Unfounded set) = IsKept P (members atoms) × (set ≡ unfounded P atoms) × (set ≢ [])
-VerdictIs P atoms (verdicts.Cycle walk) = IsFounded P atoms × IsCycle (joined P.edges (members atoms)) walk
+VerdictIs P atoms (verdicts.BrokenRequirement place) =
+    (first_broken P (members atoms) ≡ None) × (first_failing P (members atoms) ≡ Some place)
+VerdictIs P atoms (verdicts.Unfounded set) =
+    IsKept P (members atoms) × (set ≡ unfounded P atoms) × (set ≢ [])
+VerdictIs P atoms (verdicts.Cycle walk) =
+    IsFounded P atoms × IsCycle (joined P.edges (members atoms)) walk
 VerdictIs P atoms verdicts.Stable = IsFounded P atoms × Acyclic (joined P.edges (members atoms))

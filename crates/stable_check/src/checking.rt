@@ -1,3 +1,5 @@
+//! Checks whether a set is a stable model: rules first, then required literals, the least model, and cycles of edges.
+
 ghost use Rattle.std.specs.Prelude.{◌≡◌, ◌↔◌, Bool, not, map, length, IfOk, IsNone, IfSome};
 ghost use Rattle.std.specs.List.{AllByRecursion, filter};
 ghost use Rattle.asp_base.specs.Literal.{literal_holds};
@@ -5,18 +7,18 @@ ghost use Rattle.asp_base.specs.Sets.{members, Set, Within};
 ghost use Rattle.asp_base.specs.Walks.{Acyclic};
 ghost use Rattle.graph_cycles.specs.Cycle.{IsCycle};
 ghost use Rattle.ground_program.specs.Broken.{breaks};
-ghost use Rattle.ground_program.specs.Facts.{RisesFrom};
 ghost use Rattle.ground_program.specs.Stable.{Stable, joined};
-ghost use Rattle.stable_check.specs.Lack.{flag, WeightsFit};
+ghost use Rattle.stable_check.specs.private.Lack.{flag, WeightsFit};
 ghost use Rattle.stable_check.specs.Verdicts.{first_where, unfounded, VerdictIs};
-ghost use Rattle.stable_check.specs.Parts.{pairs, flagged};
+ghost use Rattle.stable_check.specs.private.Parts.{pairs, flagged};
 
 use crate::least_model::least_model;
-use crate::truth::{all_hold, breaks, literal_holds};
+use crate::truth::breaks;
 use crate::verdict::Verdict;
 use asp_base::{Lit, Memory, Walk};
+use evaluation::{all_hold, literal_holds};
 use graph_cycles::find_cycle;
-use ground_program::{AtomSet, Edge, Program, Rule, place_among};
+use ground_program::{AtomSet, Atoms, Edge, Program, Rule};
 use std::alloc::Global;
 
 /// The place, from 1, of the first rule that the set breaks.
@@ -45,23 +47,22 @@ fn first_failing(set: &AtomSet, lits: &[Lit]) -> Option<u64>
 }
 
 /// A flag for each atom: whether it is in the set.
-fn flags(alloc: Global, atoms: &[u32], set: &AtomSet) -> Result<Vec<bool>, Memory>
+fn flags(alloc: Global, atoms: &Atoms, set: &AtomSet) -> Result<Vec<bool>, Memory>
     ensures { IfOk result (λ flags. flags.items ≡ map (members set.now) atoms.now) }
 {
     let mut flags = Vec::with_capacity(alloc, atoms.len())?;
-    for atom in atoms {
+    for atom in atoms.as_slice() {
         flags.push(set.contains(*atom))?;
     }
     Ok(flags)
 }
 
 /// Whether the atom is one of these and has a flag.
-fn is_flagged(atoms: &[u32], flags: &[bool], atom: u32) -> bool
-    requires rise { RisesFrom 0 atoms.now }
+fn is_flagged(atoms: &Atoms, flags: &[bool], atom: u32) -> bool
     requires same { length flags.now ≡ length atoms.now }
     ensures { result ≡ flagged atoms.now flags.now atom }
 {
-    match place_among(atoms, atom) {
+    match atoms.place(atom) {
         Some(place) => flags[place as usize - 1],
         None => false,
     }
@@ -70,11 +71,10 @@ fn is_flagged(atoms: &[u32], flags: &[bool], atom: u32) -> bool
 /// The atoms of the set that are not flagged.
 fn not_flagged(
     alloc: Global,
-    atoms: &[u32],
+    atoms: &Atoms,
     flags: &[bool],
     set: &AtomSet,
 ) -> Result<AtomSet, Memory>
-    requires rise { RisesFrom 0 atoms.now }
     requires same { length flags.now ≡ length atoms.now }
     ensures { IfOk result (λ rest. rest ≡ filter (λ a. not (flagged atoms.now flags.now a)) set.now) }
 {
@@ -85,7 +85,7 @@ fn not_flagged(
             rest.push(*atom)?;
         }
     }
-    Ok(AtomSet::of_vec(rest))
+    AtomSet::of_vec(alloc, rest)
 }
 
 /// The edges whose condition holds.
@@ -115,7 +115,7 @@ fn unfounded(alloc: Global, program: &Program, set: &AtomSet) -> Result<AtomSet,
     ensures { IfOk result (λ rest. rest ≡ unfounded program.now set.now) }
 {
     program.known();
-    let atoms = program.atoms.as_slice();
+    let atoms = &program.atoms;
     let flags = flags(alloc, atoms, set)?;
     let model = least_model(alloc, program, flags.as_slice())?;
     not_flagged(alloc, atoms, model.as_slice(), set)
@@ -142,8 +142,8 @@ fn first_verdict(alloc: Global, program: &Program, set: &AtomSet) -> Result<Verd
     }
 }
 
-/// The verdict on a set of atoms: the first that applies of a broken rule, a broken requirement, unfounded atoms and a cycle, or
-/// that the set is a stable model.
+/// The verdict on a set of atoms: the first that applies of a broken rule, a broken requirement, unfounded atoms and a
+/// cycle, or that the set is a stable model.
 pub fn check(alloc: Global, program: &Program, set: &AtomSet) -> Result<Verdict, Memory>
     ensures verdict { IfOk result (λ verdict. VerdictIs program.now set.now verdict) }
     // Stable exactly where the set is a stable model.

@@ -1,5 +1,7 @@
+//! Counters of what the rules lack, and the stack of the rules that lack nothing.
+
 ghost use Rattle.std.specs.Prelude.{◌≡◌, ◌<◌, [], ◌∷◌, ◌++◌, length, OnOk, IsNone, IfSome};
-ghost use Rattle.stable_check.specs.Growth.{comes_to_zero, take_off};
+ghost use Rattle.stable_check.specs.private.Growth.{comes_to_zero, take_off};
 
 use asp_base::Memory;
 use std::marker::Model;
@@ -12,7 +14,7 @@ pub struct Counters {
 }
 
 impl Model for Counters {
-    ghost use Rattle.stable_check.specs.Growth.{Counts};
+    ghost use Rattle.stable_check.specs.private.Growth.{Counts};
 
     ghost Value = { Counts };
 
@@ -50,7 +52,8 @@ impl Counters {
     /// Takes a rule from those that are ready.
     pub fn next_ready(&mut self) -> Option<u32>
         ensures none { IsNone result → (self.old.ready ≡ []) × (self.new ≡ self.old) }
-        ensures some { IfSome result (λ rule. (self.old.ready ≡ self.new.ready ++ (rule ∷ [])) × (self.new.lacks ≡ self.old.lacks)) }
+        ensures some { IfSome result (λ rule. (self.old.ready ≡ self.new.ready ++ (rule ∷ []))
+            × (self.new.lacks ≡ self.old.lacks)) }
     {
         self.ready.pop()
     }

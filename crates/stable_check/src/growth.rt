@@ -1,18 +1,20 @@
+//! The least model grows: atoms are derived one by one, and each takes its weight off what the rules lack.
+
 ghost use Rattle.std.specs.Prelude.{◌≡◌, ◌<◌, [], length, map, replicate, OnOk};
 ghost use Rattle.std.specs.List.{AllByRecursion};
 ghost use Rattle.asp_base.specs.Sets.{none};
-ghost use Rattle.ground_program.specs.Facts.{RisesFrom, Among, HeadFits, RuleFits};
+ghost use Rattle.ground_program.specs.Facts.{Among, HeadFits, RuleFits};
 ghost use Rattle.ground_program.specs.Stable.{grown};
-ghost use Rattle.stable_check.specs.Lack.{flag};
-ghost use Rattle.stable_check.specs.Links.{with_rules};
-ghost use Rattle.stable_check.specs.UnderWay.{IsUnderWay};
-ghost use Rattle.stable_check.specs.Growth.{derive, derive_if_chosen, derive_chosen, derive_head};
+ghost use Rattle.stable_check.specs.private.Lack.{flag};
+ghost use Rattle.stable_check.specs.private.Links.{with_rules};
+ghost use Rattle.stable_check.specs.private.UnderWay.{IsUnderWay};
+ghost use Rattle.stable_check.specs.private.Growth.{derive, derive_if_chosen, derive_chosen, derive_head};
 
 use crate::counters::Counters;
-use crate::flags::{flag, index_of};
+use crate::flags::flag;
 use crate::occurrences::Occurrences;
 use asp_base::Memory;
-use ground_program::{Head, Rule};
+use ground_program::{Atoms, Head, Rule};
 use std::marker::Model;
 
 /// The atoms that were derived, by their flags, and what the rules lack with them.
@@ -23,7 +25,7 @@ pub struct Growth {
 }
 
 impl Model for Growth {
-    ghost use Rattle.stable_check.specs.Growth.{Growing};
+    ghost use Rattle.stable_check.specs.private.Growth.{Growing};
 
     ghost Value = { Growing };
 
@@ -60,12 +62,11 @@ impl Growth {
     /// Derives an atom, if it is in the set.
     fn derive_if_chosen(
         &mut self,
-        atoms: &[u32],
+        atoms: &Atoms,
         set: &[bool],
         table: &Occurrences,
         atom: u32,
     ) -> Result<(), Memory>
-        requires rise { RisesFrom 0 atoms.now }
         requires set { length set.now ≡ length atoms.now }
         requires derived { length self.old.derived ≡ length atoms.now }
         requires rows { length table.now.rows ≡ length self.old.derived }
@@ -76,18 +77,17 @@ impl Growth {
         if !flag(atoms, set, atom) {
             return Ok(());
         }
-        self.derive(table, index_of(atoms, atom))
+        self.derive(table, atoms.index_of(atom))
     }
 
     /// Derives the atoms of a choice that are in the set.
     fn derive_chosen(
         &mut self,
-        atoms: &[u32],
+        atoms: &Atoms,
         set: &[bool],
         table: &Occurrences,
         heads: &[u32],
     ) -> Result<(), Memory>
-        requires rise { RisesFrom 0 atoms.now }
         requires set { length set.now ≡ length atoms.now }
         requires derived { length self.old.derived ≡ length atoms.now }
         requires rows { length table.now.rows ≡ length self.old.derived }
@@ -104,12 +104,11 @@ impl Growth {
     /// Derives what a head may.
     fn derive_head(
         &mut self,
-        atoms: &[u32],
+        atoms: &Atoms,
         set: &[bool],
         table: &Occurrences,
         head: &Head,
     ) -> Result<(), Memory>
-        requires rise { RisesFrom 0 atoms.now }
         requires set { length set.now ≡ length atoms.now }
         requires derived { length self.old.derived ≡ length atoms.now }
         requires rows { length table.now.rows ≡ length self.old.derived }
@@ -119,22 +118,25 @@ impl Growth {
     {
         match head {
             Head::Nothing => Ok(()),
-            Head::One(atom) => self.derive(table, index_of(atoms, *atom)),
+            Head::One(atom) => self.derive(table, atoms.index_of(*atom)),
             Head::Choice(heads) => self.derive_chosen(atoms, set, table, heads.as_slice()),
         }
     }
     /// Derives the heads of rules that are ready until none is.
     pub fn run(
         &mut self,
-        atoms: &[u32],
+        atoms: &Atoms,
         set: &[bool],
         rules: &[Rule],
         table: &Occurrences,
     ) -> Result<(), Memory>
-        requires rise { RisesFrom 0 atoms.now }
         requires set { length set.now ≡ length atoms.now }
         requires fit { AllByRecursion (RuleFits (Among atoms.now)) rules.now }
-        requires table { table.now ≡ record { rules = length rules.now; rows = with_rules atoms.now 0 rules.now (replicate (length atoms.now) []) } }
+        requires table { table.now ≡ record {
+          rules = length rules.now;
+          rows = with_rules atoms.now 0 rules.now
+              (replicate (length atoms.now) []);
+        } }
         requires begun { IsUnderWay atoms.now rules.now (flag atoms.now set.now) (λ r. ⊥) self.old }
         ensures { OnOk result (self.new.derived ≡ map (grown rules.now (flag atoms.now set.now) none) atoms.now) }
     {

@@ -1,13 +1,15 @@
+//! What each rule still lacks before any atom is derived: the literals, or the weight, that are missing of its body.
+
 ghost use Rattle.std.specs.Prelude.{◌≡◌, ◌-◌, ◌+◌, ◌^◌, ◌≤ℤ◌, ◌<◌, pos, length, map, cond, IfOk};
 ghost use Rattle.std.specs.List.{AllByRecursion};
 ghost use Rattle.asp_base.specs.Literal.{atom_of, literal_holds};
 ghost use Rattle.asp_base.specs.Sets.{none};
-ghost use Rattle.ground_program.specs.Facts.{RisesFrom, Among, IsShort, LiteralsFit, FitsWeight, FitsBodyWeight, BodyFits, RuleFits};
-ghost use Rattle.stable_check.specs.Lack.{flag, natural, one_each, naturals, asks, weighed, total, lack, zeros};
+ghost use Rattle.ground_program.specs.Facts.{Among, IsShort, LiteralsFit, FitsWeight, FitsBodyWeight, BodyFits, RuleFits};
+ghost use Rattle.stable_check.specs.private.Lack.{flag, natural, one_each, naturals, asks, weighed, total, lack, zeros};
 
 use crate::flags::flag;
 use asp_base::{Lit, Memory};
-use ground_program::{Body, Rule};
+use ground_program::{Atoms, Body, Rule};
 use std::alloc::Global;
 
 /// The number, or 0 where it is negative.
@@ -19,8 +21,7 @@ pub fn natural(number: i64) -> u32
 }
 
 /// What is lacking once the literal has its say, if it is a negative one whose atom is outside the set.
-fn less(atoms: &[u32], set: &[bool], lit: Lit, weight: u32, lacking: u32) -> u32
-    requires rise { RisesFrom 0 atoms.now }
+fn less(atoms: &Atoms, set: &[bool], lit: Lit, weight: u32, lacking: u32) -> u32
     requires same { length set.now ≡ length atoms.now }
     requires among { Among atoms.now (atom_of lit) }
     ensures { result ≡ lacking - cond (literal_holds lit none (flag atoms.now set.now)) weight 0 }
@@ -36,8 +37,7 @@ fn less(atoms: &[u32], set: &[bool], lit: Lit, weight: u32, lacking: u32) -> u32
 }
 
 /// How many of the literals are not negative ones whose atom is outside the set.
-fn lack_of_literals(atoms: &[u32], set: &[bool], lits: &[Lit]) -> u32
-    requires rise { RisesFrom 0 atoms.now }
+fn lack_of_literals(atoms: &Atoms, set: &[bool], lits: &[Lit]) -> u32
     requires same { length set.now ≡ length atoms.now }
     requires short { IsShort lits.now }
     requires among { LiteralsFit (Among atoms.now) lits.now }
@@ -51,8 +51,7 @@ fn lack_of_literals(atoms: &[u32], set: &[bool], lits: &[Lit]) -> u32
 }
 
 /// What is missing of the bound where only negative literals whose atom is outside the set hold.
-fn lack_of_items(atoms: &[u32], set: &[bool], bound: i64, items: &[(Lit, i64)]) -> u32
-    requires rise { RisesFrom 0 atoms.now }
+fn lack_of_items(atoms: &Atoms, set: &[bool], bound: i64, items: &[(Lit, i64)]) -> u32
     requires same { length set.now ≡ length atoms.now }
     requires bound { FitsWeight bound }
     requires fits { AllByRecursion (λ item. Among atoms.now (atom_of item.0) × FitsBodyWeight item.1) items.now }
@@ -66,8 +65,7 @@ fn lack_of_items(atoms: &[u32], set: &[bool], bound: i64, items: &[(Lit, i64)]) 
 }
 
 /// What the rule lacks before any atom is derived.
-fn lack(atoms: &[u32], set: &[bool], rule: &Rule) -> u32
-    requires rise { RisesFrom 0 atoms.now }
+fn lack(atoms: &Atoms, set: &[bool], rule: &Rule) -> u32
     requires same { length set.now ≡ length atoms.now }
     requires fits { RuleFits (Among atoms.now) rule.now }
     ensures { result ≡ lack none (flag atoms.now set.now) rule.now }
@@ -79,8 +77,7 @@ fn lack(atoms: &[u32], set: &[bool], rule: &Rule) -> u32
 }
 
 /// What the rules lack before any atom is derived.
-pub fn lacks(alloc: Global, atoms: &[u32], set: &[bool], rules: &[Rule]) -> Result<Vec<u32>, Memory>
-    requires rise { RisesFrom 0 atoms.now }
+pub fn lacks(alloc: Global, atoms: &Atoms, set: &[bool], rules: &[Rule]) -> Result<Vec<u32>, Memory>
     requires same { length set.now ≡ length atoms.now }
     requires fit { AllByRecursion (RuleFits (Among atoms.now)) rules.now }
     ensures { IfOk result (λ lacks. lacks.items ≡ map (lack none (flag atoms.now set.now)) rules.now) }

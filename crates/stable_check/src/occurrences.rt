@@ -1,6 +1,8 @@
+//! Where atoms stand in bodies as positive literals, as chains of links in one array.
+
 ghost use Rattle.std.specs.Prelude.{◌≡◌, ◌<◌, [], length, replicate, get_or, OnOk, IfOk};
-ghost use Rattle.stable_check.specs.Growth.{take_off_all};
-ghost use Rattle.stable_check.specs.Links.{with_entry};
+ghost use Rattle.stable_check.specs.private.Growth.{take_off_all};
+ghost use Rattle.stable_check.specs.private.Links.{with_entry};
 
 use crate::counters::Counters;
 use asp_base::Memory;
@@ -10,8 +12,8 @@ use std::marker::Model;
 /// The number of links at most, since they are numbered by 32 bits.
 const MOST_LINKS: usize = 0xFFFF_FFFF;
 
-/// A place where an atom stands in a body as a positive literal: the rule, the weight there, and the number of the next link
-/// of that atom, or 0 for none.
+/// A place where an atom stands in a body as a positive literal: the rule, the weight there, and the number of the next
+/// link of that atom, or 0 for none.
 #[derive(Clone, Copy)]
 pub struct Link {
     rule: u32,
@@ -19,8 +21,8 @@ pub struct Link {
     next: u32,
 }
 
-/// For each atom where it stands in bodies as a positive literal, as a chain of links that begins with the newest one. Links
-/// are numbered from 1.
+/// For each atom where it stands in bodies as a positive literal, as a chain of links that begins with the newest one.
+/// Links are numbered from 1.
 #[derive(Drop)]
 pub struct Occurrences {
     rules: u32,
@@ -29,7 +31,7 @@ pub struct Occurrences {
 }
 
 impl Model for Occurrences {
-    ghost use Rattle.stable_check.specs.Links.{Table, AreLinked, rows_of};
+    ghost use Rattle.stable_check.specs.private.Links.{Table, AreLinked, rows_of};
 
     ghost Value = { Table };
 
@@ -55,7 +57,11 @@ impl Occurrences {
     pub fn push(&mut self, index: usize, rule: u32, weight: u32) -> Result<(), Memory>
         requires index { index < length self.old.rows }
         requires rule { rule < self.old.rules }
-        ensures { OnOk result (self.new ≡ record { rules = self.old.rules; rows = with_entry index (rule, weight) self.old.rows }) }
+        ensures { OnOk result (self.new ≡ record {
+          rules = self.old.rules;
+          rows = with_entry index
+              (rule, weight) self.old.rows;
+        }) }
     {
         if self.links.len() >= MOST_LINKS {
             return Err(Memory);

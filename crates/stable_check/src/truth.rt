@@ -1,34 +1,18 @@
+//! What a set breaks: bodies, heads and rules.
+
 ghost use Rattle.std.specs.Prelude.{◌≡◌, ◌-◌, cond, int_le};
 ghost use Rattle.std.specs.List.{AllByRecursion};
-ghost use Rattle.asp_base.specs.Literal.{literal_holds, all_hold};
+ghost use Rattle.asp_base.specs.Literal.{literal_holds};
 ghost use Rattle.asp_base.specs.Sets.{members};
 ghost use Rattle.ground_program.specs.Broken.{head_fails, breaks};
 ghost use Rattle.ground_program.specs.Facts.{FitsBodyWeight, FitsWeight};
 ghost use Rattle.ground_program.specs.Stable.{weight_of, holds};
-ghost use Rattle.stable_check.specs.Lack.{natural, naturals, total, WeightsFit};
+ghost use Rattle.stable_check.specs.private.Lack.{natural, naturals, total, WeightsFit};
 
 use crate::lacks::natural;
 use asp_base::Lit;
+use evaluation::{all_hold, literal_holds};
 use ground_program::{AtomSet, Body, Head, Rule};
-
-/// Whether the literal holds in the set.
-pub fn literal_holds(set: &AtomSet, lit: Lit) -> bool
-    ensures { result ≡ literal_holds lit (members set.now) (members set.now) }
-{
-    set.contains(lit.var()) == lit.is_positive()
-}
-
-/// Whether all the literals hold in the set.
-pub fn all_hold(set: &AtomSet, lits: &[Lit]) -> bool
-    ensures { result ≡ all_hold lits.now (members set.now) (members set.now) }
-{
-    for lit in lits {
-        if !literal_holds(set, *lit) {
-            return false;
-        }
-    }
-    true
-}
 
 /// What is lacking once the literal has its say.
 fn less(set: &AtomSet, lit: Lit, weight: u32, lacking: u32) -> u32

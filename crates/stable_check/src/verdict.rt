@@ -1,3 +1,5 @@
+//! Verdicts on sets of atoms.
+
 use asp_base::Walk;
 use ground_program::AtomSet;
 
@@ -12,6 +14,7 @@ pub enum Verdict {
     BrokenRequirement(u64),
     /// All atoms of the set outside the least model of the reduct.
     Unfounded(AtomSet),
-    /// A closed walk of edges whose conditions hold: its nodes differ but for the ends, and it starts at its least node.
+    /// A closed walk of edges whose conditions hold: its nodes differ but for the ends, and it starts at its least
+    /// node.
     Cycle(Walk),
 }

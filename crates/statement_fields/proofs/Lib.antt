@@ -1,8 +1,7 @@
+pub mod FieldLines
 pub mod FieldText
-pub mod Fronts
 pub mod LinePieces
-pub mod NameEnds
-pub mod NoFeed
+pub mod LineSteps
 pub mod PastBlank
 pub mod SoFar
 pub mod Spacing

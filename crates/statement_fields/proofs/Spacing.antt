@@ -1,8 +1,13 @@
 -- Words with a blank before each.
-use Rattle.std.proofs.Common.{◌≡◌, refl, sym, ◌∙◌, ap, ℕ, List, [], ◌∷◌, ◌++◌, map, append_assoc, append-nil, Result, Ok, Err, OnOk}
+use Rattle.std.proofs.Common.{◌≡◌, refl, sym, ◌∙◌, ap, ℕ, List, [], ◌∷◌, ◌++◌, map, append_assoc, append-nil}
 use Rattle.std.specs.List.{flat_map}
-use Rattle.asp_scan.specs.Words.{spaced}
+use Rattle.asp_scan.specs.Words.{spaced, Ends}
 use Rattle.statement_fields.specs.FieldWords.{spaced_before}
+
+-- a blank or the end follows what stands before them
+pub spaced_before-ends : (words : List (List ℕ)) → Ends (spaced_before words)
+spaced_before-ends [] = refl
+spaced_before-ends (word ∷ words) = refl
 
 pub spaced_before-append : (xs ys : List (List ℕ)) → spaced_before (xs ++ ys) ≡ spaced_before xs ++ spaced_before ys
 spaced_before-append [] ys = refl
@@ -25,11 +30,7 @@ pub spaced-before : (word : List ℕ) (words : List (List ℕ)) → spaced (word
 spaced-before word [] = sym (append-nil word)
 spaced-before word (next ∷ words) = ap (λ bytes. word ++ (32 ∷ bytes)) (spaced-before next words)
 
--- two appends, one after the other
-pub two_pieces : (old o1 o2 a b : List ℕ) → o1 ≡ old ++ a → o2 ≡ o1 ++ b → o2 ≡ old ++ (a ++ b)
-two_pieces old o1 o2 a b p q = q ∙ ap (λ bytes. bytes ++ b) p ∙ append_assoc old a b
-
--- the same where the second append may have failed
-pub two_pieces-ok : {T E : Type 0} (r : Result T E) (old o1 o2 a b c : List ℕ) → o1 ≡ old ++ a → c ≡ b → OnOk r (o2 ≡ o1 ++ b) → OnOk r (o2 ≡ old ++ (a ++ c))
-two_pieces-ok (Ok x) old o1 o2 a b c p e q = two_pieces old o1 o2 a b p q ∙ ap (λ bytes. old ++ (a ++ bytes)) (sym e)
-two_pieces-ok (Err x) old o1 o2 a b c p e q = q
+-- words made of each entry, one by one
+pub map-words : {A : Type 0} (word : A → List ℕ) (xs : List A) → map word xs ≡ flat_map (λ x. word x ∷ []) xs
+map-words word [] = refl
+map-words word (x ∷ xs) = ap (λ words. word x ∷ words) (map-words word xs)

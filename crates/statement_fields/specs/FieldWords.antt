@@ -13,7 +13,9 @@ literal_words lits = decimal (length lits) ∷ map literal_word lits
 
 -- how many items, and each literal with its weight
 abbrev pub item_words : List (Literal × ℤ) → List (List ℕ)
-item_words items = decimal (length items) ∷ flat_map (λ item. literal_word item.0 ∷ signed_decimal item.1 ∷ []) items
+item_words items =
+    decimal (length items)
+    ∷ flat_map (λ item. literal_word item.0 ∷ signed_decimal item.1 ∷ []) items
 
 -- how many atoms, and they
 abbrev pub atom_words : List ℕ → List (List ℕ)

@@ -1,27 +1,23 @@
--- The fields of a statement: each is read from what is left of its line, and fully checked before the next one.
--- (aspif 1.0: Kaminski, Schaub, Wanko, A tutorial on hybrid answer set solving with clingo, 2017, appendix; the limits are
--- this project's.)
-use Rattle.std.specs.Prelude.{◌≡◌, ⊤, ℕ, zero, suc, ◌^◌, ◌-◌, nat_lt, ℤ, pos, negsuc, neg_ℤ, nat_abs, int_lt, int_le, Bool, true, cond, not, ◌&&◌, ◌||◌, List, [], ◌∷◌, drop, Some, None, Result, Ok, Err}
+-- The fields of a statement: each is read from what is left of its line, and fully checked before
+-- the next one. (aspif 1.0: Kaminski, Schaub, Wanko, A tutorial on hybrid answer set solving with
+-- clingo, 2017, appendix; the limits are this project's.)
+use Rattle.std.specs.Prelude.{◌≡◌, ⊤, ℕ, zero, suc, ◌^◌, ◌-◌, nat_lt, ℤ, pos, negsuc, neg_ℤ, nat_abs, int_lt, int_le, Bool, cond, not, ◌&&◌, ◌||◌, List, [], ◌∷◌, drop, Some, None, Result, Ok, Err}
 use Rattle.std.specs.Ordering.{int_eq}
 use Rattle.std.specs.Str.{bytes_eq}
-use Rattle.asp_scan.specs.Lines.{is_blank}
 use Rattle.asp_scan.specs.Tokens.{token_at, number_at, bytes_from}
+use Rattle.asp_scan.specs.Words.{ends_token}
 use Rattle.asp_scan.specs.declared.scan.ScanFault.{ScanFault}
 use Rattle.asp_scan.specs.declared.scan.ScanFault.TheVariants as scan
+use Rattle.asp_base.specs.Faults.{◌>>=◌}
 use Rattle.asp_base.specs.Literal.{Literal, literal_of}
+use Rattle.asp_base.specs.declared.faults.LineFault.{LineFault}
+use Rattle.asp_base.specs.declared.faults.LineFault.TheVariants as faults
 use Rattle.ground_program.specs.declared.reading.ReadKind.{ReadKind}
 use Rattle.ground_program.specs.declared.reading.ReadKind.TheVariants as kinds
-use Rattle.statement_fields.specs.declared.fault.FieldFault.{FieldFault}
-use Rattle.statement_fields.specs.declared.fault.FieldFault.TheVariants as faults
 
 -- a value and what follows it in the line, or the first fault
 abbrev pub Reading : Type 0 → Type 0
 Reading A = Result (A × List ℕ) ReadKind
-
-infixl 10 ◌>>=◌
-abbrev pub ◌>>=◌ : {A B : Type 0} → Result A ReadKind → (A → Result B ReadKind) → Result B ReadKind
-(Ok x) >>= f = f x
-(Err e) >>= f = Err e
 
 -- the rest, unless a test finds this fault
 abbrev pub unless : {A : Type 0} → Bool → ReadKind → Result A ReadKind → Result A ReadKind
@@ -50,7 +46,8 @@ natural (negsuc n) = 0
 abbrev pub count : List ℕ → Reading ℕ
 count line = do
   n ← number line
-  unless (int_lt n.0 (pos 0)) kinds.NegativeCount (unless (int_lt (pos (2 ^ 24)) n.0) kinds.TooManyLiterals (Ok (natural n.0, n.1)))
+  unless (int_lt n.0 (pos 0)) kinds.NegativeCount
+      (unless (int_lt (pos (2 ^ 24)) n.0) kinds.TooManyLiterals (Ok (natural n.0, n.1)))
 
 -- how many bytes a name has
 abbrev pub name_length : List ℕ → Reading ℕ
@@ -61,18 +58,22 @@ name_length line = do
 abbrev pub atom : List ℕ → Reading ℕ
 atom line = do
   n ← number line
-  unless (int_eq n.0 (pos 0)) kinds.ZeroAtom (unless (int_lt n.0 (pos 0)) kinds.BadNumber (unless (above (2 ^ 30) n.0) kinds.AtomTooLarge (Ok (natural n.0, n.1))))
+  unless (int_eq n.0 (pos 0)) kinds.ZeroAtom
+      (unless (int_lt n.0 (pos 0)) kinds.BadNumber
+      (unless (above (2 ^ 30) n.0) kinds.AtomTooLarge (Ok (natural n.0, n.1))))
 
 abbrev pub literal : List ℕ → Reading Literal
 literal line = do
   n ← number line
-  unless (int_eq n.0 (pos 0)) kinds.ZeroAtom (unless (above (2 ^ 30) n.0) kinds.AtomTooLarge (Ok (literal_of n.0, n.1)))
+  unless (int_eq n.0 (pos 0)) kinds.ZeroAtom
+      (unless (above (2 ^ 30) n.0) kinds.AtomTooLarge (Ok (literal_of n.0, n.1)))
 
 -- a weight of a body
 abbrev pub body_weight : List ℕ → Reading ℤ
 body_weight line = do
   n ← number line
-  unless (int_lt n.0 (pos 0)) kinds.NegativeWeight (unless (above (2 ^ 31 - 1) n.0) kinds.WeightTooLarge (Ok n))
+  unless (int_lt n.0 (pos 0)) kinds.NegativeWeight
+      (unless (above (2 ^ 31 - 1) n.0) kinds.WeightTooLarge (Ok n))
 
 -- a level's weight, or a bound
 abbrev pub weight : List ℕ → Reading ℤ
@@ -125,15 +126,14 @@ item weight_field line = do
 abbrev pub ended : {A : Type 0} → A → List ℕ → Result A ReadKind
 ended value line = elim (token_at line) [ None ↦ Ok value | Some token ↦ Err kinds.TrailingText ]
 
-abbrev pub starts_blank : List ℕ → Bool
-starts_blank [] = true
-starts_blank (byte ∷ bytes) = is_blank byte
-
 -- a name: its length, one blank, so many bytes, and then a blank or the end
 abbrev pub name : List ℕ → Reading (List ℕ)
 name line = do
   n ← name_length line
-  elim (bytes_from n.0 n.1) [ None ↦ Err kinds.Missing | Some found ↦ unless (not (starts_blank found.1)) kinds.BadName (Ok found) ]
+  elim (bytes_from n.0 n.1) [
+    | None ↦ Err kinds.Missing
+    | Some found ↦ unless (not (ends_token found.1)) kinds.BadName (Ok found)
+  ]
 
 -- with the blank behind it taken, if there is one
 abbrev pub past_blank : {A : Type 0} → Reading A → Reading A
@@ -142,9 +142,12 @@ past_blank (Err kind) = Err kind
 
 -- this word of a header
 abbrev pub word : List ℕ → List ℕ → Result (List ℕ) ReadKind
-word text line = elim (token_at line) [ None ↦ Err kinds.BadHeader | Some token ↦ cond (bytes_eq token.0 text) (Ok token.1) (Err kinds.BadHeader) ]
+word text line = elim (token_at line) [
+  | None ↦ Err kinds.BadHeader
+  | Some token ↦ cond (bytes_eq token.0 text) (Ok token.1) (Err kinds.BadHeader)
+]
 
 -- a fault of several fields is the first one, or memory ran out
-abbrev pub Faults : {A : Type 0} → Result A ReadKind → FieldFault → Type 0
+abbrev pub Faults : {A : Type 0} → Result A ReadKind → LineFault ReadKind → Type 0
 Faults read (faults.Kind kind) = read ≡ Err kind
 Faults read faults.Memory = ⊤

@@ -1,4 +1,3 @@
-pub mod Feeds
 pub mod FieldWords
 pub mod Fields
-pub mod Weights
+pub mod private

@@ -1,6 +1,10 @@
+//! Names. A name may have blanks, so its length stands before it; memory is taken for bytes that are there, never by
+//! the length that the text claims.
+
 ghost use Rattle.std.specs.Prelude.{◌≡◌, true, false, drop, Ok, Err, OnOk, IfOk, IfErr};
-ghost use Rattle.statement_fields.specs.Feeds.{HasNoFeed};
-ghost use Rattle.statement_fields.specs.Fields.{name, past_blank, starts_blank, Faults};
+ghost use Rattle.asp_scan.specs.Feeds.{HasNoFeed};
+ghost use Rattle.asp_scan.specs.Words.{ends_token};
+ghost use Rattle.statement_fields.specs.Fields.{name, past_blank, Faults};
 
 use crate::fault::FieldFault;
 use crate::single::name_length;
@@ -9,9 +13,9 @@ use asp_scan::Scan;
 use ground_program::ReadKind;
 use std::alloc::Global;
 
-/// A name: its length, one blank, and so many bytes; then a blank, which is taken too, or the end of the line. Refused with
-/// the faults of its length, `Missing` where the line has fewer bytes, and `BadName` where another byte follows.
-#[tactic(auto, using(crate::proofs::NoFeed::no_feeds))]
+/// A name: its length, one blank, and so many bytes; then a blank, which is taken too, or the end of the line. Refused
+/// with the faults of its length, `Missing` where the line has fewer bytes, and `BadName` where another byte follows.
+#[tactic(auto, using(asp_scan::proofs::NoFeed::no_feeds))]
 pub fn name(alloc: Global, scan: &mut Scan<'_>) -> Result<ByteList, FieldFault>
     ensures ok { IfOk result (λ text. past_blank (name scan.old.left) ≡ Ok (text, scan.new.left)) }
     ensures err { IfErr result (λ fault. Faults (name scan.old.left) fault) }
@@ -24,30 +28,21 @@ pub fn name(alloc: Global, scan: &mut Scan<'_>) -> Result<ByteList, FieldFault>
         return Err(FieldFault::Kind(ReadKind::Missing));
     };
     end_of_name(scan)?;
-    copy(alloc, bytes)
+    let mut text = ByteList::new(alloc);
+    text.append(bytes)?;
+    Ok(text)
 }
 
 /// Takes the blank that ends a name.
-#[tactic(auto, using(crate::proofs::NameEnds::name_ends))]
+#[tactic(auto, using(asp_scan::proofs::NameEnds::name_ends))]
 fn end_of_name(scan: &mut Scan<'_>) -> Result<(), ReadKind>
-    ensures ok { OnOk result ((starts_blank scan.old.left ≡ true) × (scan.new.left ≡ drop 1 scan.old.left)) }
-    ensures err { IfErr result (λ kind. (kind ≡ ReadKind.BadName) × (starts_blank scan.old.left ≡ false)) }
+    ensures ok { OnOk result ((ends_token scan.old.left ≡ true) × (scan.new.left ≡ drop 1 scan.old.left)) }
+    ensures err { IfErr result (λ kind. (kind ≡ ReadKind.BadName) × (ends_token scan.old.left ≡ false)) }
     ensures rest { scan.new ≡ record scan.old { left = scan.new.left } }
 {
     if scan.next_bytes(0).is_some() || scan.end_of_line() {
         Ok(())
     } else {
         Err(ReadKind::BadName)
-    }
-}
-
-fn copy(alloc: Global, bytes: &[u8]) -> Result<ByteList, FieldFault>
-    ensures ok { IfOk result (λ text. text ≡ bytes.now) }
-    ensures err { IfErr result (λ fault. fault ≡ FieldFault.Memory) }
-{
-    let mut text = Vec::new(alloc);
-    match text.extend_from_slice(bytes) {
-        Ok(()) => Ok(ByteList::from_vec(text)),
-        Err(_) => Err(FieldFault::Memory),
     }
 }

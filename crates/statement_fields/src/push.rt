@@ -54,7 +54,8 @@ pub fn push_items(out: &mut Vec<u8>, items: &[(Lit, i64)]) -> Result<(), Memory>
 }
 
 fn push_each_item(out: &mut Vec<u8>, items: &[(Lit, i64)]) -> Result<(), Memory>
-    ensures ok { OnOk result (out.new.items ≡ out.old.items ++ flat_map (λ item. spaced_before (literal_word item.0 ∷ signed_decimal item.1 ∷ [])) items.now) }
+    ensures ok { OnOk result (out.new.items ≡ out.old.items
+        ++ flat_map (λ item. spaced_before (literal_word item.0 ∷ signed_decimal item.1 ∷ [])) items.now) }
     ensures err { OnErr result (take (length out.old.items) out.new.items ≡ out.old.items) }
 {
     for item in items {
@@ -64,7 +65,8 @@ fn push_each_item(out: &mut Vec<u8>, items: &[(Lit, i64)]) -> Result<(), Memory>
 }
 
 fn push_item(out: &mut Vec<u8>, item: &(Lit, i64)) -> Result<(), Memory>
-    ensures ok { OnOk result (out.new.items ≡ out.old.items ++ spaced_before (literal_word item.now.0 ∷ signed_decimal item.now.1 ∷ [])) }
+    ensures ok { OnOk result (out.new.items
+        ≡ out.old.items ++ spaced_before (literal_word item.now.0 ∷ signed_decimal item.now.1 ∷ [])) }
     ensures err { OnErr result (take (length out.old.items) out.new.items ≡ out.old.items) }
 {
     push_field(out, item.0.value().into())?;

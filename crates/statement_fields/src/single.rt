@@ -1,7 +1,9 @@
+//! Fields of one number or word, each read from what is left of the present line and checked against its limits.
+
 ghost use Rattle.std.specs.Prelude.{◌≡◌, ◌≤◌, ◌^◌, pos, ◌≤ℤ◌, Ok, Err, None, IfOk, OnOk, IfErr, IsSome};
 ghost use Rattle.asp_base.specs.Literal.{atom_of};
 ghost use Rattle.ground_program.specs.Facts.{IsAtom, FitsWeight, FitsBodyWeight};
-ghost use Rattle.statement_fields.specs.Feeds.{HasNoFeed};
+ghost use Rattle.asp_scan.specs.Feeds.{HasNoFeed};
 ghost use Rattle.statement_fields.specs.Fields.{number, count, name_length, atom, literal, body_weight, weight, small, not_negative, choice, word, kind_of};
 ghost use Rattle.asp_scan.specs.Tokens.{token_at};
 
@@ -26,7 +28,7 @@ fn kind_of(fault: ScanFault) -> ReadKind
 }
 
 /// A number of 64 bits. Refused with `Missing`, `BadNumber` or `TooWide`.
-#[tactic(auto, using(crate::proofs::NoFeed::no_feeds))]
+#[tactic(auto, using(asp_scan::proofs::NoFeed::no_feeds))]
 pub fn number(scan: &mut Scan<'_>) -> Result<i64, ReadKind>
     ensures ok { IfOk result (λ n. number scan.old.left ≡ Ok (n, scan.new.left)) }
     ensures err { IfErr result (λ kind. number scan.old.left ≡ Err kind) }

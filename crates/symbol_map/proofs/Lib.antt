@@ -1,7 +1,8 @@
-mod LineEntries
+pub mod ComposeMap
 mod LinesSoFar
 pub mod MapRoundTrip
 mod MapRows
-pub mod NamesFit
+pub mod RisingCuts
 mod Rows
+mod ScaleLaws
 mod Searched

@@ -1,5 +1,5 @@
 -- The map of the lines that were read so far, in front of the entries that are still to come.
-use Rattle.std.proofs.Common.{◌≡◌, refl, sym, ◌∙◌, ap, subst, ℕ, ◌^◌, ◌<◌, ◌≤◌, ℤ, pos, ◌<ℤ◌, ◌≤ℤ◌, int_lt, true, List, [], ◌∷◌, ◌++◌, append_assoc, append-nil, Option, Some, Result, Ok, Err, arith}
+use Rattle.std.proofs.Common.{◌≡◌, refl, sym, ◌∙◌, ap, subst, ℕ, ◌^◌, ◌<◌, ◌≤◌, ℤ, pos, ◌<ℤ◌, ◌≤ℤ◌, true, List, [], ◌∷◌, ◌++◌, append_assoc, append-nil, Option, Some, Result, Ok, Err, arith}
 use Rattle.std.specs.Prelude.{IfSome, ⊤}
 use Rattle.std.proofs.lemmas.Bool.{ltb-true, true≢false}
 use Rattle.std.proofs.lemmas.Int.{ints}
@@ -8,25 +8,28 @@ use Rattle.asp_scan.specs.Scanning.{Scanning}
 use Rattle.ground_program.specs.Facts.{IsAtom, IsShort, IsPriority, FallsFrom, LevelFits, ShowFits}
 use Rattle.ground_program.specs.declared.program.Level.{Level}
 use Rattle.ground_program.specs.declared.program.Show.{Show}
-use Rattle.statement_fields.specs.Feeds.{HaveNoFeed}
-use Rattle.statement_fields.proofs.SoFar.{fit-push}
+use Rattle.asp_scan.specs.Feeds.{HaveNoFeed}
+use Rattle.asp_base.proofs.Each.{each-push}
+use Rattle.asp_base.proofs.IntegerTests.{lt-from_test}
 use Rattle.symbol_map.specs.declared.entry.Entry.{Entry}
 use Rattle.symbol_map.specs.declared.entry.Entry.TheVariants.{Atom, Shown, Leveled}
 use Rattle.symbol_map.specs.declared.entry.Stage.{Stage}
 use Rattle.symbol_map.specs.declared.entry.Stage.TheVariants.{Atoms, Shows, Levels}
-use Rattle.symbol_map.specs.declared.kind.MapRefusal.{MapRefusal}
-use Rattle.symbol_map.specs.declared.kind.MapRefusal.TheVariants as refusals
+use Rattle.asp_base.specs.declared.faults.Refusal.{Refusal}
+use Rattle.asp_base.specs.declared.faults.Refusal.TheVariants as refusals
 use Rattle.symbol_map.specs.declared.map.Form.{Form}
 use Rattle.symbol_map.specs.declared.map.Place.{Place}
-use Rattle.symbol_map.specs.EntryFacts.{EntryFits, put}
+use Rattle.symbol_map.specs.private.EntryFacts.{EntryFits, put}
 use Rattle.symbol_map.specs.IsMap.{IsMap, IsVariable, PlacesRise}
-use Rattle.symbol_map.specs.MapText.{Fault, Refuses, is_next, stage_of, before, entries, empty_map}
+use Rattle.asp_base.specs.Faults.{Fault, Refuses}
+use Rattle.symbol_map.specs.declared.kind.MapKind.{MapKind}
+use Rattle.symbol_map.specs.Read.{is_next, stage_of, before, entries, empty_map}
 use Rattle.symbol_map.specs.Symbols.{Symbols}
 
 -- ---- how far the lines have come
 
 -- the entries of one map in front of those that are still to come
-abbrev pub onto : Symbols → Result Symbols Fault → Result Symbols Fault
+abbrev pub onto : Symbols → Result Symbols (Fault MapKind) → Result Symbols (Fault MapKind)
 onto front (Ok m) = Ok (record m { atoms = front.atoms ++ m.atoms; shows = front.shows ++ m.shows; levels = front.levels ++ m.levels })
 onto front (Err f) = Err f
 
@@ -72,9 +75,6 @@ pub record Grows (vars : ℕ) (stage : Stage) (m : Symbols) : Type 0 where
   pub same : m.vars ≡ vars
   pub reached : Reached stage m
 
-lt-from : (x y : ℤ) → int_lt x y ≡ true → x <ℤ y
-lt-from x y h = grind (arith, ints)
-
 one-level : (levels : List Level) (level : Level) → levels ≡ [] → level.priority <ℤ pos (2 ^ 31) → FallsFrom (pos (2 ^ 31)) (levels ++ (level ∷ []))
 one-level levels level none h = subst (λ ls. FallsFrom (pos (2 ^ 31)) (ls ++ (level ∷ []))) (sym none) (h, tt)
 
@@ -89,7 +89,7 @@ grows-place vars (Atoms a) m place g fits next =
       is_map = record {
         vars = g.is_map.vars;
         atoms_rise = rise-push 0 a m.atoms place g.is_map.atoms_rise g.reached.0 rises some;
-        atoms = fit-push (λ x. IsAtom x.atom × IsVariable m.vars (atom_of x.lit)) m.atoms place g.is_map.atoms (fits.0, subst (λ n. IsVariable n (atom_of place.lit)) (sym g.same) fits.1);
+        atoms = each-push (λ x. IsAtom x.atom × IsVariable m.vars (atom_of x.lit)) m.atoms place g.is_map.atoms (fits.0, subst (λ n. IsVariable n (atom_of place.lit)) (sym g.same) fits.1);
         shows = g.is_map.shows;
         levels = g.is_map.levels;
         priorities = g.is_map.priorities;
@@ -107,7 +107,7 @@ grows-show vars stage m show g fits next = record {
     vars = g.is_map.vars;
     atoms_rise = g.is_map.atoms_rise;
     atoms = g.is_map.atoms;
-    shows = fit-push (ShowFits (IsVariable m.vars)) m.shows show g.is_map.shows (subst (λ n. ShowFits (IsVariable n) show) (sym g.same) fits);
+    shows = each-push (ShowFits (IsVariable m.vars)) m.shows show g.is_map.shows (subst (λ n. ShowFits (IsVariable n) show) (sym g.same) fits);
     levels = g.is_map.levels;
     priorities = g.is_map.priorities;
     priorities_fit = g.is_map.priorities_fit;
@@ -127,7 +127,7 @@ grows-priorities : (stage : Stage) (m : Symbols) (level : Level) → Reached sta
 grows-priorities (Atoms a) m level reached next falls high = (one-level m.levels level reached.1 high, first-level m.levels level reached.1)
 grows-priorities Shows m level reached next falls high = (one-level m.levels level reached high, first-level m.levels level reached)
 grows-priorities (Levels p) m level reached next falls high =
-    let lower : level.priority <ℤ p = lt-from level.priority p next in
+    let lower : level.priority <ℤ p = lt-from_test level.priority p next in
     (fall-push (pos (2 ^ 31)) p m.levels level falls reached lower high, down-push p m.levels level reached lower)
 
 grows-level : (vars : ℕ) (stage : Stage) (m : Symbols) (level : Level) → Grows vars stage m → EntryFits vars (Leveled level) → is_next stage (Leveled level) ≡ true → Grows vars (Levels level.priority) (put (Leveled level) m)
@@ -139,9 +139,9 @@ grows-level vars stage m level g fits next =
         atoms_rise = g.is_map.atoms_rise;
         atoms = g.is_map.atoms;
         shows = g.is_map.shows;
-        levels = fit-push (λ x. IsShort x.items × LevelFits (IsVariable m.vars) x) m.levels level g.is_map.levels (subst (λ n. IsShort level.items × LevelFits (IsVariable n) level) (sym g.same) fits.1);
+        levels = each-push (λ x. IsShort x.items × LevelFits (IsVariable m.vars) x) m.levels level g.is_map.levels (subst (λ n. IsShort level.items × LevelFits (IsVariable n) level) (sym g.same) fits.1);
         priorities = falls.0;
-        priorities_fit = fit-push (λ x. IsPriority x.priority) m.levels level g.is_map.priorities_fit fits.0;
+        priorities_fit = each-push (λ x. IsPriority x.priority) m.levels level g.is_map.priorities_fit fits.0;
       };
       same = g.same;
       reached = falls.1;
@@ -153,7 +153,7 @@ grows vars stage m (Shown show) g fits next = grows-show vars stage m show g fit
 grows vars stage m (Leveled level) g fits next = grows-level vars stage m level g fits next
 
 -- an entry moves from the map that comes to the one that is there
-onto-put : (m : Symbols) (e : Entry) (read : Result Symbols Fault) → onto m (before e read) ≡ onto (put e m) read
+onto-put : (m : Symbols) (e : Entry) (read : Result Symbols (Fault MapKind)) → onto m (before e read) ≡ onto (put e m) read
 onto-put m (Atom place) (Ok n) = ap (λ (xs : List Place). Ok (record n { atoms = xs; shows = m.shows ++ n.shows; levels = m.levels ++ n.levels })) (sym (append_assoc m.atoms (place ∷ []) n.atoms))
 onto-put m (Shown show) (Ok n) = ap (λ (xs : List Show). Ok (record n { atoms = m.atoms ++ n.atoms; shows = xs; levels = m.levels ++ n.levels })) (sym (append_assoc m.shows (show ∷ []) n.shows))
 onto-put m (Leveled level) (Ok n) = ap (λ (xs : List Level). Ok (record n { atoms = m.atoms ++ n.atoms; shows = m.shows ++ n.shows; levels = xs })) (sym (append_assoc m.levels (level ∷ []) n.levels))
@@ -165,7 +165,7 @@ onto-put m (Leveled level) (Err f) = refl
 onto-empty : (m : Symbols) → onto m (Ok (empty_map m.form m.vars)) ≡ Ok m
 onto-empty m = ap Ok (λ i. record { form = m.form; vars = m.vars; atoms = append-nil m.atoms i; shows = append-nil m.shows i; levels = append-nil m.levels i })
 
-onto-nothing : (f : Form) (vars : ℕ) (read : Result Symbols Fault) → onto (empty_map f vars) read ≡ read
+onto-nothing : (f : Form) (vars : ℕ) (read : Result Symbols (Fault MapKind)) → onto (empty_map f vars) read ≡ read
 onto-nothing f vars (Ok m) = refl
 onto-nothing f vars (Err e) = refl
 
@@ -218,7 +218,7 @@ module _ {f : Form} {vars : ℕ} {start now : Scanning} {stage : Stage} {m : Sym
       (subst (λ o. IfSome o (λ x. EntryFits vars x)) is fits) (subst (λ o. IfSome o (λ x. is_next stage x ≡ true)) is follows) last no_feed in
       subst (λ s. LinesSoFar f vars start after s longer) (sym stage_is) (subst (λ x. LinesSoFar f vars start after (stage_of e) x) (sym longer_is) here)
 
-  pub LinesSoFar-fails : (refusal : MapRefusal) → Refuses (entries now.last (empty_map f vars) stage now.ahead) refusal → Refuses (entries start.last (empty_map f vars) (Atoms 0) start.ahead) refusal
+  pub LinesSoFar-fails : (refusal : Refusal MapKind) → Refuses (entries now.last (empty_map f vars) stage now.ahead) refusal → Refuses (entries start.last (empty_map f vars) (Atoms 0) start.ahead) refusal
   LinesSoFar-fails (refusals.At line kind) refuses = sym h.same ∙ ap (onto m) refuses
   LinesSoFar-fails refusals.Memory refuses = tt
 

@@ -3,7 +3,8 @@ use Rattle.std.proofs.Common.{◌≡◌, refl, [], ◌∷◌, Ok, codes, pos, ne
 use Rattle.asp_base.specs.Literal.{Pos, Neg}
 use Rattle.symbol_map.specs.declared.map.Form.TheVariants.{Cnf, Wcnf}
 use Rattle.symbol_map.specs.declared.kind.MapKind.TheVariants as kinds
-use Rattle.symbol_map.specs.MapText.{fault, map_of}
+use Rattle.asp_base.specs.Faults.{fault}
+use Rattle.symbol_map.specs.Read.{map_of}
 use Rattle.symbol_map.specs.Symbols.{Symbols}
 
 two_atoms : map_of (codes "map 1 cnf 2\natom 1 1\natom 2 2\nend\n")

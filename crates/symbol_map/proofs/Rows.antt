@@ -3,7 +3,7 @@ use Rattle.std.proofs.Common.{◌≡◌, refl, [], ◌∷◌, codes, pos, negsuc
 use Rattle.std.specs.Fmt.{digits}
 use Rattle.asp_base.specs.Literal.{Pos, Neg}
 use Rattle.symbol_map.specs.declared.map.Form.TheVariants.{Cnf, Wcnf}
-use Rattle.symbol_map.specs.MapWriting.{map_text}
+use Rattle.symbol_map.specs.Written.{map_text}
 
 nothing : map_text (record { form = Cnf; vars = 0; atoms = []; shows = []; levels = [] }) ≡ codes "map 1 cnf 0\nend\n"
 unfolding digits

@@ -1,11 +1,12 @@
 -- Places whose atoms rise, searched for an atom.
-use Rattle.std.proofs.Common.{◌≡◌, refl, ℕ, zero, suc, ◌<◌, ◌≤◌, ◌==◌, Bool, true, false, ◌||◌, List, [], ◌∷◌, length, get_or, add-one, Less, Equal, Greater, ⊎_elim, arith}
+use Rattle.std.proofs.Common.{◌≡◌, refl, ℕ, zero, suc, ◌<◌, ◌≤◌, ◌==◌, true, false, List, [], ◌∷◌, length, get_or, add-one, Less, Equal, Greater, ⊎_elim, arith}
 use Rattle.std.specs.List.Sorted.{IsNonDecreasingBy, IsPartitionPoint}
 use Rattle.std.specs.Ordering.{is_lt, nat_cmp, ordering_index}
 use Rattle.std.proofs.lemmas.Bool.{eq-eqb, ne_eqb, cases_lt}
 use Rattle.std.proofs.lemmas.Bool.Decides.{nat_tests}
 use Rattle.std.proofs.lemmas.Cmp.{nat_cmp_total}
 use Rattle.std.proofs.lemmas.List.Sorted.{searchable_from_sorted}
+use Rattle.asp_base.proofs.Bools.{or_false}
 use Rattle.asp_base.specs.Sets.{Set}
 use Rattle.clause_store.specs.Models.{is_true}
 use Rattle.symbol_map.specs.declared.map.Place.{Place}
@@ -27,10 +28,6 @@ absent_below (place ∷ places) A low a r h =
     let apart : (place.atom == a) ≡ false = ne_eqb place.atom a (λ e. omega arith) in
     rw apart (absent_below places A place.atom a r.1 (omega arith))
 
-or_nothing : (b : Bool) → (b || false) ≡ b
-or_nothing true = refl
-or_nothing false = refl
-
 -- an atom that is there is true where its literal is
 pub atoms_true_at : (places : List Place) (A : Set) (low a i : ℕ) (d : Place) → PlacesRise low places → i < length places
     → (get_or places i d).atom ≡ a → atoms_true places A a ≡ is_true (get_or places i d).lit A
@@ -38,7 +35,7 @@ atoms_true_at [] A low a i d r h e = absurd (omega arith)
 atoms_true_at (place ∷ places) A low a zero d r h e =
     let here : (place.atom == a) ≡ true = eq-eqb place.atom a e in
     let rest : atoms_true places A a ≡ false = absent_below places A place.atom a r.1 (omega arith) in
-    rw here (rw rest (or_nothing (is_true place.lit A)))
+    rw here (rw rest (or_false (is_true place.lit A)))
 atoms_true_at (place ∷ places) A low a (suc i) d r h e =
     let above : place.atom < (get_or places i d).atom = rises_at places place.atom i d r.1 (omega arith) in
     let apart : (place.atom == a) ≡ false = ne_eqb place.atom a (λ same. omega arith) in

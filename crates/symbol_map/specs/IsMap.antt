@@ -18,8 +18,10 @@ IsVariable n v = (0 < v) × (v ≤ n)
 pub record IsMap (m : Symbols) : Type 0 where
   pub vars : m.vars ≤ 2 ^ 31 - 1
   pub atoms_rise : PlacesRise 0 m.atoms
-  pub atoms : AllByRecursion (λ place. IsAtom place.atom × IsVariable m.vars (atom_of place.lit)) m.atoms
+  pub atoms : AllByRecursion
+      (λ place. IsAtom place.atom × IsVariable m.vars (atom_of place.lit)) m.atoms
   pub shows : AllByRecursion (ShowFits (IsVariable m.vars)) m.shows
-  pub levels : AllByRecursion (λ level. IsShort level.items × LevelFits (IsVariable m.vars) level) m.levels
+  pub levels : AllByRecursion
+      (λ level. IsShort level.items × LevelFits (IsVariable m.vars) level) m.levels
   pub priorities : FallsFrom (pos (2 ^ 31)) m.levels
   pub priorities_fit : AllByRecursion (λ level. IsPriority level.priority) m.levels

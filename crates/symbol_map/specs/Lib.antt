@@ -1,10 +1,9 @@
-pub mod EntryFacts
+pub mod CutMap
 pub mod FaithfulMap
-pub mod Inside
-pub mod InsideDraft
 pub mod IsMap
-pub mod MapText
-pub mod MapWriting
+pub mod Read
 pub mod Restrict
 pub mod Scale
 pub mod Symbols
+pub mod Written
+pub mod private

@@ -1,10 +1,12 @@
+//! A map that grows entry by entry. What is true of every map need not be known before the last one.
+
 ghost use Rattle.std.specs.Prelude.{◌≡◌, OnOk};
-ghost use Rattle.symbol_map.specs.EntryFacts.{put};
+ghost use Rattle.symbol_map.specs.private.EntryFacts.{put};
 ghost use Rattle.symbol_map.specs.IsMap.{IsMap};
-ghost use Rattle.symbol_map.specs.MapText.{empty_map};
+ghost use Rattle.symbol_map.specs.Read.{empty_map};
 
 use crate::entry::Entry;
-use crate::map::{Form, Place, PlaceList, SymbolMap};
+use crate::map::{Form, PlaceList, SymbolMap};
 use asp_base::Memory;
 use ground_program::{LevelList, ShowList};
 use std::alloc::Global;
@@ -12,17 +14,17 @@ use std::marker::Model;
 
 /// What the lines of a map have given so far.
 #[derive(Drop)]
-pub struct Draft {
+pub(crate) struct Draft {
     form: Form,
     vars: u32,
-    atoms: Vec<Place>,
+    atoms: PlaceList,
     shows: ShowList,
     levels: LevelList,
 }
 
 impl Model for Draft {
     ghost use Rattle.symbol_map.specs.Symbols.{Symbols};
-    ghost use Rattle.symbol_map.specs.InsideDraft.{drafted};
+    ghost use Rattle.symbol_map.specs.private.InsideDraft.{drafted};
 
     ghost Value = { Symbols };
 
@@ -31,39 +33,38 @@ impl Model for Draft {
 
 impl Draft {
     /// A map of this header and no line.
-    pub fn new(alloc: Global, form: Form, vars: u32) -> Draft
+    pub(crate) fn new(alloc: Global, form: Form, vars: u32) -> Draft
         ensures { result ≡ empty_map form vars }
     {
         Draft {
             form,
             vars,
-            atoms: Vec::new(alloc),
-            shows: ShowList::from_vec(Vec::new(alloc)),
-            levels: LevelList::from_vec(Vec::new(alloc)),
+            atoms: PlaceList::new(alloc),
+            shows: ShowList::new(alloc),
+            levels: LevelList::new(alloc),
         }
     }
 
     /// Puts an entry behind the others.
-    pub fn push(&mut self, entry: Entry) -> Result<(), Memory>
+    pub(crate) fn push(&mut self, entry: Entry) -> Result<(), Memory>
         ensures { OnOk result (self.new ≡ put entry self.old) }
     {
         match entry {
-            Entry::Atom(place) => self.atoms.push(place)?,
-            Entry::Shown(show) => self.shows.push(show)?,
-            Entry::Leveled(level) => self.levels.push(level)?,
+            Entry::Atom(place) => self.atoms.push(place),
+            Entry::Shown(show) => self.shows.push(show),
+            Entry::Leveled(level) => self.levels.push(level),
         }
-        Ok(())
     }
 
     /// The map.
-    pub fn into_map(self) -> SymbolMap
+    pub(crate) fn into_map(self) -> SymbolMap
         requires { IsMap self }
         ensures { result ≡ self }
     {
         SymbolMap {
             form: self.form,
             vars: self.vars,
-            atoms: PlaceList::from_vec(self.atoms),
+            atoms: self.atoms,
             shows: self.shows,
             levels: self.levels,
         }

@@ -1,12 +1,14 @@
+//! The lines of a map behind its header, and the order in which they stand.
+
 ghost use Rattle.std.specs.Prelude.{◌≡◌};
-ghost use Rattle.symbol_map.specs.MapText.{is_next, stage_of};
+ghost use Rattle.symbol_map.specs.Read.{is_next, stage_of};
 
 use crate::map::Place;
 use ground_program::{Level, Show};
 
 /// A line of a map behind its header.
 #[derive(Drop)]
-pub enum Entry {
+pub(crate) enum Entry {
     Atom(Place),
     Shown(Show),
     Leveled(Level),
@@ -14,7 +16,7 @@ pub enum Entry {
 
 /// How far the lines have come: the last atom, or shows, or the last priority.
 #[derive(Clone, Copy)]
-pub enum Stage {
+pub(crate) enum Stage {
     Atoms(u32),
     Shows,
     Levels(i32),
@@ -22,7 +24,7 @@ pub enum Stage {
 
 impl Stage {
     /// The stage that an entry brings.
-    pub fn of(entry: &Entry) -> Stage
+    pub(crate) fn of(entry: &Entry) -> Stage
         ensures { result ≡ stage_of entry.now }
     {
         match entry {
@@ -33,7 +35,7 @@ impl Stage {
     }
 
     /// Whether the entry may follow: atoms rise, then come shows, then levels whose priorities fall.
-    pub fn admits(self, entry: &Entry) -> bool
+    pub(crate) fn admits(self, entry: &Entry) -> bool
         ensures { result ≡ is_next self entry.now }
     {
         match entry {

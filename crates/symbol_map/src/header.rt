@@ -1,5 +1,7 @@
+//! The first line of a map.
+
 ghost use Rattle.std.specs.Prelude.{◌≡◌, ◌<◌, ◌^◌, Ok, Err, IfOk, IfErr};
-ghost use Rattle.symbol_map.specs.MapText.{header, form, variables};
+ghost use Rattle.symbol_map.specs.Read.{header, form, variables};
 
 use crate::map::Form;
 use asp_scan::Scan;
@@ -7,7 +9,7 @@ use ground_program::ReadKind;
 use statement_fields::{ended, number, word};
 
 /// `map 1`, a form and a number of variables.
-pub fn header(scan: &mut Scan<'_>) -> Result<(Form, u32), ReadKind>
+pub(crate) fn header(scan: &mut Scan<'_>) -> Result<(Form, u32), ReadKind>
     ensures ok { IfOk result (λ h. header scan.old.left ≡ Ok h) }
     ensures err { IfErr result (λ kind. header scan.old.left ≡ Err kind) }
     ensures vars { IfOk result (λ h. h.1 < 2 ^ 31) }

@@ -1,4 +1,8 @@
-use asp_base::Memory;
+//! What is wrong with a map's text.
+
+ghost use Rattle.std.specs.Prelude.{◌≤◌, length};
+
+use asp_base::Refusal;
 
 /// What is wrong with a map's text.
 #[derive(Clone, Copy, Debug, PartialEq, Eq)]
@@ -13,20 +17,19 @@ pub enum MapKind {
     NoEnd,
 }
 
-/// The first fault of a map's text with the number of its line, from 1, or want of memory.
-#[derive(Clone, Copy, Debug, PartialEq, Eq)]
-pub enum MapRefusal {
-    At { line: u64, kind: MapKind },
-    Memory,
-}
-
-impl From<Memory> for MapRefusal {
-    ghost use Rattle.std.specs.Prelude.{◌≡◌};
-    ghost use Rattle.symbol_map.specs.declared.kind.MapRefusal.TheVariants as refusals;
-
-    ghost from_gives = { λ _ e. e ≡ refusals.Memory };
-
-    fn from(_: Memory) -> MapRefusal {
-        MapRefusal::Memory
+impl MapKind {
+    /// The name of the fault, at most 10 bytes.
+    pub fn name(self) -> &'static str
+        ensures { length result.now ≤ 10 }
+    {
+        match self {
+            MapKind::BadHeader => "BadHeader",
+            MapKind::BadLine => "BadLine",
+            MapKind::WrongOrder => "WrongOrder",
+            MapKind::NoEnd => "NoEnd",
+        }
     }
 }
+
+/// The first fault of a map's text with the number of its line, from 1, or want of memory.
+pub type MapRefusal = Refusal<MapKind>;

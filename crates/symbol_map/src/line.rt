@@ -1,10 +1,12 @@
+//! A line of a map behind its header. Which fault it has does not count, only whether it has one.
+
 ghost use Rattle.std.specs.Prelude.{◌≡◌, ◌<◌, ◌^◌, Ok, Err, IfOk, IfErr, IfSome};
 ghost use Rattle.ground_program.specs.Facts.{ShowFits};
-ghost use Rattle.statement_fields.specs.Feeds.{HasNoFeed};
+ghost use Rattle.asp_scan.specs.Feeds.{HasNoFeed};
 ghost use Rattle.statement_fields.specs.Fields.{Faults};
-ghost use Rattle.symbol_map.specs.EntryFacts.{PlaceFits, LevelOver, EntryFits};
+ghost use Rattle.symbol_map.specs.private.EntryFacts.{PlaceFits, LevelOver, EntryFits};
 ghost use Rattle.symbol_map.specs.IsMap.{IsVariable};
-ghost use Rattle.symbol_map.specs.MapText.{place, show, level, entry};
+ghost use Rattle.symbol_map.specs.Read.{place, show, level, entry};
 
 use crate::entry::Entry;
 use crate::fields::{items, literal, literals};
@@ -15,8 +17,12 @@ use statement_fields::{FieldFault, atom, ended, name, small};
 use std::alloc::Global;
 
 /// The entry of a line, or none at the end.
-#[tactic(auto, using(statement_fields::proofs::NoFeed::token_feeds))]
-pub fn entry(alloc: Global, scan: &mut Scan<'_>, vars: u32) -> Result<Option<Entry>, FieldFault>
+#[tactic(auto, using(asp_scan::proofs::NoFeed::token_feeds))]
+pub(crate) fn entry(
+    alloc: Global,
+    scan: &mut Scan<'_>,
+    vars: u32,
+) -> Result<Option<Entry>, FieldFault>
     requires vars { vars < 2 ^ 31 }
     requires no_feed { HasNoFeed scan.old.left }
     ensures ok { IfOk result (λ e. entry vars scan.old.left ≡ Ok e) }

@@ -1,6 +1,7 @@
-ghost use Rattle.std.specs.Prelude.{◌≡◌, List};
+//! Maps: which literals of a formula stand for the atoms of a program, and its shows and levels over the formula's
+//! variables.
 
-use asp_base::Lit;
+use asp_base::{Lit, VecList};
 use ground_program::{LevelList, ShowList};
 use std::marker::Model;
 
@@ -20,33 +21,7 @@ pub struct Place {
 }
 
 /// Places.
-#[derive(Drop)]
-pub struct PlaceList {
-    items: Vec<Place>,
-}
-
-impl Model for PlaceList {
-    ghost use Rattle.std.specs.Prelude.{List};
-    ghost use Rattle.symbol_map.specs.declared.map.Place.{Place};
-
-    ghost Value = { List Place };
-
-    ghost view = { λ l. l.items.items };
-}
-
-impl PlaceList {
-    pub fn from_vec(items: Vec<Place>) -> PlaceList
-        ensures { result ≡ items.items }
-    {
-        PlaceList { items }
-    }
-
-    pub fn as_slice(&self) -> &[Place]
-        ensures { result.now ≡ self.now }
-    {
-        self.items.as_slice()
-    }
-}
+pub type PlaceList = VecList<Place>;
 
 /// What the variables of a formula mean for a program: the literals of its shows and levels are the formula's.
 /// Each literal's variable is from 1 to `vars`, at most 2^31 - 1; atoms rise; priorities have 32 bits and fall; each
@@ -62,7 +37,7 @@ pub struct SymbolMap {
 
 impl Model for SymbolMap {
     ghost use Rattle.symbol_map.specs.Symbols.{Symbols};
-    ghost use Rattle.symbol_map.specs.Inside.{symbols_of};
+    ghost use Rattle.symbol_map.specs.private.Inside.{symbols_of};
     ghost use Rattle.symbol_map.specs.IsMap.{IsMap};
 
     ghost Value = { Symbols };

@@ -1,8 +1,12 @@
+//! The map of a text, in one walk over its lines.
+
 ghost use Rattle.std.specs.Prelude.{◌≡◌, ◌<◌, ◌^◌, true, length, Ok, IfOk, OnOk, IfErr, IfSome, IsNone, IsSome, false, []};
+ghost use Rattle.asp_base.specs.Faults.{Refuses};
+ghost use Rattle.asp_base.specs.declared.faults.Refusal.TheVariants as refusals;
 ghost use Rattle.asp_scan.specs.Scanning.{next};
-ghost use Rattle.statement_fields.specs.Feeds.{HaveNoFeed};
-ghost use Rattle.symbol_map.specs.EntryFacts.{EntryFits};
-ghost use Rattle.symbol_map.specs.MapText.{Refuses, is_next, stage_of, before, ended_text, entries, empty_map, from_lines, map_of};
+ghost use Rattle.asp_scan.specs.Feeds.{HaveNoFeed};
+ghost use Rattle.symbol_map.specs.private.EntryFacts.{EntryFits};
+ghost use Rattle.symbol_map.specs.Read.{is_next, stage_of, before, ended_text, entries, empty_map, from_lines, map_of};
 ghost use Rattle.symbol_map.specs.Symbols.{Symbols};
 
 use crate::draft::Draft;
@@ -15,8 +19,8 @@ use asp_scan::Scan;
 use statement_fields::FieldFault;
 use std::alloc::Global;
 
-/// The map of a text: a header, lines of places by rising atoms, of shows, of levels by falling priorities, and the end.
-/// Refused with the first fault and its line, `BadHeader`, `BadLine`, `WrongOrder` or `NoEnd`, or with `Memory`.
+/// The map of a text: a header, lines of places by rising atoms, of shows, of levels by falling priorities, and the
+/// end. Refused with the first fault and its line, `BadHeader`, `BadLine`, `WrongOrder` or `NoEnd`, or with `Memory`.
 pub fn read(alloc: Global, text: &[u8]) -> Result<SymbolMap, MapRefusal>
     ensures map { IfOk result (λ m. map_of text.now ≡ Ok m) }
     ensures fault { IfErr result (λ refusal. Refuses (map_of text.now) refusal) }
@@ -28,7 +32,8 @@ pub fn read(alloc: Global, text: &[u8]) -> Result<SymbolMap, MapRefusal>
 
 /// The header, in the first line that is not blank.
 fn header_line(scan: &mut Scan<'_>) -> Result<(Form, u32), MapRefusal>
-    ensures ok { IfOk result (λ h. from_lines scan.old.last scan.old.ahead ≡ entries scan.old.last (empty_map h.0 h.1) (Stage.Atoms 0) scan.new.ahead) }
+    ensures ok { IfOk result (λ h. from_lines scan.old.last scan.old.ahead
+        ≡ entries scan.old.last (empty_map h.0 h.1) (Stage.Atoms 0) scan.new.ahead) }
     ensures err { IfErr result (λ refusal. Refuses (from_lines scan.old.last scan.old.ahead) refusal) }
     ensures vars { IfOk result (λ h. h.1 < 2 ^ 31) }
     ensures last { scan.new.last ≡ scan.old.last }
@@ -52,7 +57,8 @@ fn entries(
     requires vars { vars < 2 ^ 31 }
     requires no_feed { HaveNoFeed scan.old.ahead }
     ensures ok { IfOk result (λ m. entries scan.old.last (empty_map form vars) (Stage.Atoms 0) scan.old.ahead ≡ Ok m) }
-    ensures err { IfErr result (λ refusal. Refuses (entries scan.old.last (empty_map form vars) (Stage.Atoms 0) scan.old.ahead) refusal) }
+    ensures err { IfErr result (λ refusal. Refuses
+        (entries scan.old.last (empty_map form vars) (Stage.Atoms 0) scan.old.ahead) refusal) }
 {
     let mut draft = Draft::new(alloc, form, vars);
     let mut stage = Stage::Atoms(0);
@@ -73,9 +79,13 @@ fn next_entry(
 ) -> Result<Option<Entry>, MapRefusal>
     requires vars { vars < 2 ^ 31 }
     requires no_feed { HaveNoFeed scan.old.ahead }
-    ensures some { IfOk result (λ o. IfSome o (λ e. (empty : Symbols) → empty.vars ≡ vars → entries scan.old.last empty stage scan.old.ahead ≡ before e (entries scan.old.last empty (stage_of e) scan.new.ahead))) }
-    ensures none { IfOk result (λ o. IsNone o → (empty : Symbols) → empty.vars ≡ vars → entries scan.old.last empty stage scan.old.ahead ≡ ended_text empty scan.new.ahead) }
-    ensures err { IfErr result (λ refusal. (empty : Symbols) → empty.vars ≡ vars → Refuses (entries scan.old.last empty stage scan.old.ahead) refusal) }
+    ensures some { IfOk result (λ o. IfSome o (λ e. (empty : Symbols) → empty.vars ≡ vars
+        → entries scan.old.last empty stage scan.old.ahead
+        ≡ before e (entries scan.old.last empty (stage_of e) scan.new.ahead))) }
+    ensures none { IfOk result (λ o. IsNone o → (empty : Symbols) → empty.vars ≡ vars
+        → entries scan.old.last empty stage scan.old.ahead ≡ ended_text empty scan.new.ahead) }
+    ensures err { IfErr result (λ refusal. (empty : Symbols) → empty.vars ≡ vars
+        → Refuses (entries scan.old.last empty stage scan.old.ahead) refusal) }
     ensures fits { IfOk result (λ o. IfSome o (λ e. EntryFits vars e)) }
     ensures next { IfOk result (λ o. IfSome o (λ e. is_next stage e ≡ true)) }
     ensures last { scan.new.last ≡ scan.old.last }
@@ -100,7 +110,8 @@ fn in_order(
 ) -> Result<Option<Entry>, MapRefusal>
     ensures ok { IfOk result (λ o. o ≡ found) }
     ensures next { IfOk result (λ o. IfSome o (λ e. is_next stage e ≡ true)) }
-    ensures err { IfErr result (λ refusal. (refusal ≡ MapRefusal.At scan.now.line.number MapKind.WrongOrder) × IfSome found (λ e. is_next stage e ≡ false)) }
+    ensures err { IfErr result (λ refusal. (refusal ≡ refusals.At scan.now.line.number MapKind.WrongOrder)
+        × IfSome found (λ e. is_next stage e ≡ false)) }
     ensures some { IfErr result (λ _. IsSome found) }
 {
     match found {
@@ -128,59 +139,10 @@ fn ended_text(scan: &mut Scan<'_>) -> Result<(), MapRefusal>
 
 /// A fault of the present line.
 fn at(scan: &Scan<'_>, kind: MapKind) -> MapRefusal
-    ensures { result ≡ MapRefusal.At scan.now.line.number kind }
+    ensures { result ≡ refusals.At scan.now.line.number kind }
 {
     MapRefusal::At {
         line: scan.line(),
         kind,
-    }
-}
-
-#[cfg(test)]
-mod tests {
-    use super::*;
-    use crate::text::write;
-    use std::test::Fail;
-
-    #[test]
-    fn reads_what_is_written(rt: HostRuntime) -> Result<(), Fail> {
-        let alloc = rt.alloc();
-        let text =
-            b"map 1 wcnf 2\natom 1 1\natom 3 -2\nshow 4 a b) 1 -2\nlevel 1 2 1 3 2 -2\nend\n";
-        match read(alloc, text.as_slice()) {
-            Ok(map) => {
-                let mut out = Vec::new(alloc);
-                write(&map, &mut out)?;
-                assert_eq!(rt; out.as_slice(), text.as_slice());
-            }
-            Err(_) => assert!(rt; false),
-        }
-        Ok(())
-    }
-
-    #[test]
-    fn refuses_with_the_line_of_the_fault(rt: HostRuntime) -> Result<(), Fail> {
-        let alloc = rt.alloc();
-        let texts = [
-            (b"map 2 cnf 1\nend\n".as_slice(), 1, MapKind::BadHeader),
-            (
-                b"map 1 cnf 1\natom 1 2\nend\n".as_slice(),
-                2,
-                MapKind::BadLine,
-            ),
-            (
-                b"map 1 cnf 2\n\natom 2 1\natom 1 2\nend\n".as_slice(),
-                4,
-                MapKind::WrongOrder,
-            ),
-            (b"map 1 cnf 1\n".as_slice(), 1, MapKind::NoEnd),
-        ];
-        for (text, line, kind) in texts {
-            match read(alloc, text) {
-                Ok(_) => assert!(rt; false),
-                Err(refusal) => assert_eq!(rt; refusal, MapRefusal::At { line, kind }),
-            }
-        }
-        Ok(())
     }
 }

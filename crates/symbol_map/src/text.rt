@@ -1,8 +1,11 @@
-ghost use Rattle.std.specs.Prelude.{◌≡◌, ◌^◌, ◌++◌, ◌∷◌, ℕ, List, length, take, Ok, OnOk, OnErr};
+//! The text of a map.
+
+ghost use Rattle.std.specs.Prelude.{◌≡◌, ◌++◌, length, take, Ok, OnOk, OnErr};
 ghost use Rattle.std.specs.List.{flat_map};
 ghost use Rattle.symbol_map.specs.IsMap.{IsMap};
-ghost use Rattle.symbol_map.specs.MapText.{map_of};
-ghost use Rattle.symbol_map.specs.MapWriting.{name_front, priority_front, header_line, place_line, show_line, level_line, map_text};
+ghost use Rattle.symbol_map.specs.Read.{map_of};
+ghost use Rattle.symbol_map.specs.private.Fronts.{name_front, priority_front};
+ghost use Rattle.symbol_map.specs.Written.{header_line, place_line, show_line, level_line, map_text};
 
 use crate::map::{Form, Place, SymbolMap};
 use asp_base::Memory;
@@ -13,7 +16,7 @@ use statement_fields::{push_count, push_field, push_items, push_literals};
 pub fn write(map: &SymbolMap, out: &mut Vec<u8>) -> Result<(), Memory>
     ensures ok { OnOk result (out.new.items ≡ out.old.items ++ map_text map.now) }
     // What is appended is read as this map.
-    ensures read_back { OnOk result ((text : List ℕ) × (out.new.items ≡ out.old.items ++ text) × (map_of text ≡ Ok map.now)) }
+    ensures read_back { OnOk result (map_of (map_text map.now) ≡ Ok map.now) }
     ensures err { OnErr result (out.new.items ≡ out.old.items) }
 {
     let before = out.len();

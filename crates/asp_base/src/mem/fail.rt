@@ -1,3 +1,5 @@
+//! A desk in memory whose calls fail where a test wants it.
+
 ghost use Rattle.std.specs.Prelude.{◌≡◌, ◌⊎◌, ◌↔◌, None, OnOk, OnErr, IfOk, IsTrue, IsErr, Contains};
 ghost use Rattle.asp_base.specs.Desk.{BeginsReading, FailsToBeginReading, Reads, FailsToRead, BeginsWriting, FailsToBeginWriting, Writes, FailsToWrite, EndsWriting, FailsToEndWriting, Says, FailsToSay};
 

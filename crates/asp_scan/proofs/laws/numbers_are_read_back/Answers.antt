@@ -1,5 +1,4 @@
-use Rattle.std.proofs.Common.{arith}
-use Rattle.asp_scan.proofs.NumberText.{number_at-signed, number_at-spaced, signed-word, IsShort-from_fits, decimal-word}
+use Rattle.asp_scan.proofs.NumberText.{number_at-signed, number_at-spaced, fitting-is_word, natural-is_word}
 use Rattle.asp_scan.proofs.laws.numbers_are_read_back.Goals as goal
 
 pub returns-clause-number : goal.returns-clause-number
@@ -9,7 +8,7 @@ pub returns-clause-number_spaced : goal.returns-clause-number_spaced
 returns-clause-number_spaced c = number_at-spaced
 
 pub returns-clause-word : goal.returns-clause-word
-returns-clause-word c = λ n fits. signed-word n (IsShort-from_fits n fits)
+returns-clause-word c = fitting-is_word
 
 pub returns-clause-word_of_natural : goal.returns-clause-word_of_natural
-returns-clause-word_of_natural c = λ n small. decimal-word n (omega arith)
+returns-clause-word_of_natural c = natural-is_word

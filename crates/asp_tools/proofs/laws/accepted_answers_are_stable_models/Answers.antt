@@ -2,7 +2,7 @@ use Rattle.std.proofs.Common.{◌∙◌, ap}
 use Rattle.ground_program.specs.Stable.{visible}
 use Rattle.symbol_map.specs.Restrict.{restrict, costs}
 use Rattle.asp_tools.specs.BackAnswers.{values_of}
-use Rattle.asp_tools.specs.Replies.{accepted_text}
+use Rattle.asp_tools.specs.Sayings.{accepted_text}
 use Rattle.asp_tools.proofs.laws.accepted_answers_are_stable_models.Goals as goal
 
 pub returns-clause-stable : goal.returns-clause-stable

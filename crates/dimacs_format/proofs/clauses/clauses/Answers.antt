@@ -1,3 +1,4 @@
+-- One clause more, or the fault of the next.
 use Rattle.std.proofs.lemmas.Result.{err_from_is_err_and}
 use Rattle.dimacs_format.proofs.ClauseSteps.{ClausesSoFar-next, ClausesSoFar-fails}
 use Rattle.dimacs_format.proofs.clauses.clauses.Goals as goal

@@ -1,3 +1,4 @@
+-- The clauses so far stand in front of those that are still to be read.
 use Rattle.dimacs_format.proofs.ClauseSteps.{ClausesSoFar}
 use Rattle.dimacs_format.proofs.clauses.clauses.Given as goal
 

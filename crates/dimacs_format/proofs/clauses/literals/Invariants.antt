@@ -1,8 +1,9 @@
+-- The literals so far stand in front of the rest of the clause.
 use Rattle.std.proofs.Common.{◌≡◌, length}
 use Rattle.std.specs.List.{AllByRecursion}
-use Rattle.clause_store.specs.Inside.{IsOver}
-use Rattle.dimacs_format.specs.Dimacs.{clause}
-use Rattle.dimacs_format.specs.Walks.{tokens_left, onto}
+use Rattle.clause_store.specs.Facts.{IsOver}
+use Rattle.dimacs_format.specs.Read.{clause}
+use Rattle.dimacs_format.specs.private.Walks.{tokens_left, onto}
 use Rattle.dimacs_format.proofs.clauses.literals.Given as goal
 
 -- the literals so far, in front of the rest of the clause, are the whole clause

@@ -1,3 +1,4 @@
+-- A token is a number within the variables, one above them, or no number.
 use Rattle.std.proofs.Common.{◌≡◌, ◌≤◌, nat_abs, to_z, of_z, w64, arith}
 use Rattle.std.proofs.lemmas.Int.{to_z-of_z}
 use Rattle.dimacs_format.proofs.ClauseSteps.{literal_step, shorter_left, bad_number}

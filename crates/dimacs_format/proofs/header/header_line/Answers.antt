@@ -1,3 +1,4 @@
+-- What the first tokens of a line leave of a header.
 use Rattle.std.proofs.Common.{refl, sym}
 use Rattle.dimacs_format.proofs.Headers.{header-one, header-two, header-three, header-four, header-more, header-other}
 use Rattle.dimacs_format.proofs.header.header_line.Goals as goal

@@ -1,5 +1,6 @@
+-- The lines that were left behind had no token left.
 use Rattle.std.proofs.Common.{◌≡◌, length}
-use Rattle.dimacs_format.specs.Walks.{tokens_left}
+use Rattle.dimacs_format.specs.private.Walks.{tokens_left}
 use Rattle.dimacs_format.proofs.tokens.find_token.Given as goal
 
 abbrev pub invariant-lines : goal.invariant-lines

@@ -1,5 +1,6 @@
+-- The lines that were left behind were comments.
 use Rattle.std.proofs.Common.{◌≡◌, ◌≤◌, length}
-use Rattle.dimacs_format.specs.Dimacs.{content_of}
+use Rattle.dimacs_format.specs.Read.{content_of}
 use Rattle.dimacs_format.proofs.tokens.next_content.Given as goal
 
 -- what is left of the comments' lines is left out

@@ -1,9 +1,9 @@
-use Rattle.std.proofs.Common.{◌≡◌, ◌+◌, ◌*◌, ◌≤◌, ◌<◌, ◌^◌, ap, subst, ℕ, List, length, slice_get, Some, arith}
-use Rattle.asp_base.specs.Literal.{Literal}
+-- There is room for one clause more.
+use Rattle.std.proofs.Common.{◌≡◌, ◌+◌, ◌*◌, ◌≤◌, ◌<◌, ◌^◌, subst, length, slice_get, Some, arith}
 use Rattle.asp_scan.specs.Words.{line_of}
-use Rattle.clause_store.specs.Inside.{IsOver, Fits}
+use Rattle.clause_store.specs.Facts.{IsOver, Fits}
 use Rattle.std.specs.List.{AllByRecursion}
-use Rattle.dimacs_format.specs.CnfText.{clause_words, header_words}
+use Rattle.dimacs_format.specs.Written.{clause_words, header_words}
 use Rattle.dimacs_format.proofs.Lengths.{clause_length, header_length, lines_more, all_at}
 use Rattle.dimacs_format.proofs.write.most_bytes.Goals as goal
 

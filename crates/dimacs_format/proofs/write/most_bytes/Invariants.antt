@@ -1,6 +1,7 @@
+-- There is room for the header and the clauses so far.
 use Rattle.std.proofs.Common.{◌+◌, ◌-◌, ◌^◌, ◌≤◌, min, length, take}
 use Rattle.asp_scan.specs.Words.{line_of}
-use Rattle.dimacs_format.specs.CnfText.{header_words, clause_lines}
+use Rattle.dimacs_format.specs.Written.{header_words, clause_lines}
 use Rattle.dimacs_format.proofs.write.most_bytes.Given as goal
 
 abbrev pub invariant-loop-i : goal.invariant-loop-i

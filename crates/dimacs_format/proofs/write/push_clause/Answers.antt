@@ -1,4 +1,5 @@
-use Rattle.std.proofs.Common.{◌≡◌, ◌∙◌, sym, ap, ◌++◌, List, ℕ, take, length, append_assoc, codes, arith}
+-- The literals and the closing 0 are the line of the clause.
+use Rattle.std.proofs.Common.{◌≡◌, ◌∙◌, sym, ap, ◌++◌, take, append_assoc, codes, arith}
 use Rattle.std.specs.List.{flat_map}
 use Rattle.std.proofs.lemmas.List.{take_all}
 use Rattle.dimacs_format.proofs.ClauseLines.{literal_piece, clause_line_pieces}

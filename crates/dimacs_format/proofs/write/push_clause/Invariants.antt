@@ -1,3 +1,4 @@
+-- The literals so far are written, each with a blank behind it.
 use Rattle.std.proofs.Common.{◌≡◌, ◌++◌, take}
 use Rattle.std.specs.List.{flat_map}
 use Rattle.dimacs_format.proofs.ClauseLines.{literal_piece}

@@ -1,8 +1,9 @@
-use Rattle.std.proofs.Common.{◌≡◌, ◌∙◌, sym, ap, ◌++◌, ◌∷◌, List, take}
+-- One line more, or none.
+use Rattle.std.proofs.Common.{◌∙◌, sym, ap, ◌++◌, take}
 use Rattle.std.proofs.lemmas.List.{flat_map_more}
 use Rattle.asp_scan.specs.Words.{line_of}
-use Rattle.dimacs_format.specs.CnfText.{clause_words, clause_lines}
-use Rattle.dimacs_format.proofs.Fronts.{front_kept, take_read, on_err}
+use Rattle.dimacs_format.specs.Written.{clause_words, clause_lines}
+use Rattle.asp_scan.proofs.Appends.{front_kept, take_read, on_err}
 use Rattle.dimacs_format.proofs.write.push_clauses.Goals as goal
 
 pub returns-in_err-push_clause-clause-err : goal.returns-in_err-push_clause-clause-err

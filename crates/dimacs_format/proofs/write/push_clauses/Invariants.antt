@@ -1,5 +1,6 @@
+-- The lines of the clauses so far are written.
 use Rattle.std.proofs.Common.{◌≡◌, ◌++◌, take}
-use Rattle.dimacs_format.specs.CnfText.{clause_lines}
+use Rattle.dimacs_format.specs.Written.{clause_lines}
 use Rattle.dimacs_format.proofs.write.push_clauses.Given as goal
 
 abbrev pub invariant-loop-i : goal.invariant-loop-i

@@ -1,3 +1,4 @@
+-- A text that fits memory has fewer than 2^63 clauses, and is read back.
 use Rattle.std.proofs.Common.{◌^◌, ◌<◌, length, rules}
 use Rattle.std.proofs.lemmas.Result.{on_ok_weaker}
 use Rattle.dimacs_format.proofs.ReadBack.{written-read}

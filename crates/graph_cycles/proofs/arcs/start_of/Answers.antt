@@ -2,7 +2,7 @@ use Rattle.std.proofs.Common.{◌≡◌, ap, of_z, w32, arith, rules}
 use Rattle.std.specs.Int.RustNames.{int_lt}
 use Rattle.std.proofs.lemmas.Int.{ints}
 use Rattle.std.proofs.lemmas.List.Sorted.{IsPartitionPoint-from_clause}
-use Rattle.graph_cycles.specs.Arcs.{arc_at}
+use Rattle.graph_cycles.specs.private.Arcs.{arc_at}
 use Rattle.graph_cycles.proofs.ArcLaws.{parted, starts-at, starts-not}
 use Rattle.graph_cycles.proofs.arcs.start_of.Goals as goal
 use Rattle.graph_cycles.proofs.arcs.start_of.Goals.{else-start-arcs-via-then-start-arcs+else-arcs-start, else-start-arcs-via-else-start-arcs}

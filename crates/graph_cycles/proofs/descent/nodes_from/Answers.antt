@@ -1,6 +1,6 @@
 use Rattle.std.proofs.Common.{◌-◌, length, take, drop, map, sym, ◌∙◌, ap}
 use Rattle.std.proofs.lemmas.List.{drop-map, take_all, take_rest}
-use Rattle.graph_cycles.specs.Searching.{node_of}
+use Rattle.graph_cycles.specs.private.Searching.{node_of}
 use Rattle.graph_cycles.proofs.descent.nodes_from.Goals as goal
 
 pub returns : goal.returns

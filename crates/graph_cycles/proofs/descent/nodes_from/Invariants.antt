@@ -1,5 +1,5 @@
 use Rattle.std.proofs.Common.{◌≡◌, take, map}
-use Rattle.graph_cycles.specs.Searching.{node_of}
+use Rattle.graph_cycles.specs.private.Searching.{node_of}
 use Rattle.graph_cycles.proofs.descent.nodes_from.Given as goal
 
 abbrev pub invariant-loop-step : goal.invariant-loop-step

@@ -2,13 +2,13 @@ use Rattle.std.proofs.Common.{◌≡◌, ◌≢◌, ap, w32, arith, refl, subst,
 use Rattle.std.specs.Option.{is_some}
 use Rattle.std.proofs.lemmas.Bool.{cases_eq}
 use Rattle.std.proofs.lemmas.Int.{to_z-of_z}
-use Rattle.graph_cycles.specs.Arcs.{arc_at}
-use Rattle.graph_cycles.specs.Searching.{Settled}
+use Rattle.graph_cycles.specs.private.Arcs.{arc_at}
+use Rattle.graph_cycles.specs.private.Searching.{Settled}
 use Rattle.graph_cycles.proofs.SearchingLaws.{searching-new}
 use Rattle.graph_cycles.proofs.descent.search.Goals as goal
 
 pub loop-arc-init : goal.loop-arc-init
-loop-arc-init c = rw (c.in_ok-descent.ensures.0, c.in_ok-descent.ensures.1) (searching-new c.args.arcs.now c.requires, refl, λ j below. absurd (omega arith))
+loop-arc-init c = rw (c.in_ok-descent.ensures.marks, c.in_ok-descent.ensures.path) (searching-new c.args.arcs.now c.requires, refl, λ j below. absurd (omega arith))
 
 pub loop-arc-preserved : goal.loop-arc-preserved
 loop-arc-preserved c =

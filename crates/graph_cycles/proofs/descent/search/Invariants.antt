@@ -1,6 +1,6 @@
 use Rattle.std.proofs.Common.{◌≡◌, ℕ, ◌<◌, []}
-use Rattle.graph_cycles.specs.Arcs.{arc_at}
-use Rattle.graph_cycles.specs.Searching.{Descends, Settled}
+use Rattle.graph_cycles.specs.private.Arcs.{arc_at}
+use Rattle.graph_cycles.specs.private.Searching.{Descends, Settled}
 use Rattle.graph_cycles.proofs.descent.search.Given as goal
 
 abbrev pub invariant-loop-arc : goal.invariant-loop-arc

@@ -1,7 +1,7 @@
 use Rattle.std.proofs.Common.{is_some, ap, sym, subst, rules}
 use Rattle.asp_base.specs.Walks.{Acyclic}
 use Rattle.graph_cycles.specs.Cycle.{leads, IsCycle}
-use Rattle.graph_cycles.specs.Loop.{IsLoop}
+use Rattle.graph_cycles.specs.private.Loop.{IsLoop}
 use Rattle.graph_cycles.proofs.ArcLaws.{same-leads}
 use Rattle.graph_cycles.proofs.LoopLaws.{loop-some}
 use Rattle.graph_cycles.proofs.search.find_cycle.Goals as goal

@@ -1,6 +1,6 @@
 use Rattle.std.proofs.Common.{◌≡◌, ◌≤◌, ◌^◌, ◌++◌, drop}
 use Rattle.std.specs.List.{AllByRecursion}
-use Rattle.ground_program.specs.Gaps.{gaps_of}
+use Rattle.ground_program.specs.private.Gaps.{gaps_of}
 use Rattle.ground_program.proofs.fresh.gaps_between.Given as goal
 
 abbrev pub invariant-loop-atom : goal.invariant-loop-atom

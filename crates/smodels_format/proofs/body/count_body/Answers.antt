@@ -1,3 +1,4 @@
+-- As many items as literals, each with weight 1, fit a body.
 use Rattle.std.proofs.Common.{rules, arith}
 use Rattle.smodels_format.proofs.Weighing.{counting-fits, counting-long}
 use Rattle.smodels_format.proofs.body.count_body.Goals as goal

@@ -1,3 +1,4 @@
+-- Each literal so far stands with weight 1.
 use Rattle.std.proofs.Common.{◌≡◌, map, take}
 use Rattle.std.specs.Prelude.{pos}
 use Rattle.smodels_format.proofs.body.counting_items.Given as goal

@@ -1,6 +1,7 @@
+-- Behind the counts and the literals stand the weights.
 use Rattle.std.proofs.Common.{◌≡◌, ◌∙◌, Ok, IfOk, IfErr, sym, ap, subst}
 use Rattle.statement_fields.specs.Fields.{Faults}
-use Rattle.smodels_format.specs.Steps.{weights_of}
+use Rattle.smodels_format.specs.private.Steps.{weights_of}
 use Rattle.smodels_format.proofs.Weighing.{items-by}
 use Rattle.smodels_format.proofs.body.items.Goals as goal
 

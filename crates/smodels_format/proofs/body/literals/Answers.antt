@@ -1,3 +1,4 @@
+-- The negative literals and the positive ones behind them are the literals of the body.
 use Rattle.std.proofs.Common.{rules}
 use Rattle.smodels_format.proofs.Bodies.{literals-fails, positive-fails, literals-are}
 use Rattle.smodels_format.proofs.body.literals.Goals as goal

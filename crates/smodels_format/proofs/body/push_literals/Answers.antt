@@ -1,6 +1,7 @@
+-- One literal more, or its fault.
 use Rattle.std.proofs.Common.{arith}
 use Rattle.std.proofs.lemmas.Grind.{common_steps}
-use Rattle.smodels_format.proofs.Pushing.{Pushing-next, Pushing-fails}
+use Rattle.statement_fields.proofs.SoFar.{Pushing-next, Pushing-fails}
 use Rattle.smodels_format.proofs.body.push_literals.Goals as goal
 
 pub returns-in_err-signed_atom-clause-err : goal.returns-in_err-signed_atom-clause-err

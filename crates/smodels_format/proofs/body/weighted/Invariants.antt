@@ -1,3 +1,4 @@
+-- The literals so far have their weights.
 use Rattle.std.proofs.Common.{drop}
 use Rattle.smodels_format.proofs.Weighing.{Weighing}
 use Rattle.smodels_format.proofs.body.weighted.Given as goal

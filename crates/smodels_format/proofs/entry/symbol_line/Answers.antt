@@ -1,6 +1,7 @@
+-- A fault of the atom, and one behind it, are faults of the line.
 use Rattle.std.proofs.Common.{rules, arith}
 use Rattle.std.proofs.lemmas.Grind.{common_steps}
-use Rattle.smodels_format.specs.Steps.{symbol_behind}
+use Rattle.smodels_format.specs.private.Steps.{symbol_behind}
 use Rattle.smodels_format.proofs.Starts.{entry-fails}
 use Rattle.smodels_format.proofs.entry.symbol_line.Goals as goal
 

@@ -1,6 +1,7 @@
+-- The atoms of the items so far are written.
 use Rattle.std.proofs.Common.{◌≡◌, ◌++◌, take}
 use Rattle.std.specs.List.{flat_map}
-use Rattle.smodels_format.specs.Writing.{atom_piece}
+use Rattle.smodels_format.specs.private.Writing.{atom_piece}
 use Rattle.smodels_format.proofs.push_bodies.push_item_atoms.Given as goal
 
 abbrev pub invariant-loop-item : goal.invariant-loop-item

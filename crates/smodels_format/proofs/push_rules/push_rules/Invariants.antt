@@ -1,8 +1,9 @@
+-- What is written, with the rules that are left, is the text of all; there is a number for each rule that is left.
 use Rattle.std.proofs.Common.{◌≡◌, ◌+◌, ◌≤◌, ◌^◌, ◌++◌, drop, take, length}
 use Rattle.std.specs.List.{flat_map}
 use Rattle.ground_program.specs.Fresh.{new_atom}
 use Rattle.smodels_format.specs.Lowering.{after_rules, rules_lowered}
-use Rattle.smodels_format.specs.SmodelsText.{rule_line}
+use Rattle.smodels_format.specs.Written.{rule_line}
 use Rattle.smodels_format.proofs.push_rules.push_rules.Given as goal
 
 abbrev pub invariant-loop-rule : goal.invariant-loop-rule

@@ -1,7 +1,8 @@
+-- What is written, with the rules that are left, is all of the rules.
 use Rattle.std.proofs.Common.{◌≡◌, ◌++◌, drop, take, length}
 use Rattle.std.specs.List.{flat_map}
-use Rattle.smodels_format.specs.SmodelsText.{rule_line}
-use Rattle.smodels_format.specs.Writing.{condition_rules}
+use Rattle.smodels_format.specs.Written.{rule_line}
+use Rattle.smodels_format.specs.private.Writing.{condition_rules}
 use Rattle.smodels_format.proofs.push_shows.push_condition_rules.Given as goal
 
 abbrev pub invariant-loop-i : goal.invariant-loop-i

@@ -1,7 +1,8 @@
+-- What is written, with the lines of the levels that are left, is all of the lines.
 use Rattle.std.proofs.Common.{◌≡◌, ◌++◌, map, reverse, take, length}
 use Rattle.std.specs.List.{flat_map}
 use Rattle.smodels_format.specs.Lowering.{items_negatives_first}
-use Rattle.smodels_format.specs.SmodelsText.{sum_line}
+use Rattle.smodels_format.specs.Written.{sum_line}
 use Rattle.smodels_format.proofs.push_shows.push_levels.Given as goal
 
 abbrev pub invariant-loop-i : goal.invariant-loop-i

@@ -1,4 +1,5 @@
-use Rattle.statement_fields.proofs.Fronts.{front_kept, on_err}
+-- The text that was there stays where memory runs out.
+use Rattle.asp_scan.proofs.Appends.{front_kept, on_err}
 use Rattle.smodels_format.proofs.push_shows.push_required.Goals as goal
 
 pub returns-in_err-push_required_one-clause-err : goal.returns-in_err-push_required_one-clause-err

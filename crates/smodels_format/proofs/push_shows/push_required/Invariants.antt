@@ -1,6 +1,7 @@
+-- The literals so far are written.
 use Rattle.std.proofs.Common.{◌≡◌, ◌++◌, take}
 use Rattle.std.specs.List.{flat_map}
-use Rattle.smodels_format.specs.Writing.{required_line}
+use Rattle.smodels_format.specs.private.Writing.{required_line}
 use Rattle.smodels_format.proofs.push_shows.push_required.Given as goal
 
 abbrev pub invariant-loop-lit : goal.invariant-loop-lit

@@ -1,7 +1,8 @@
+-- What is written, with the lines that are left, is the whole table.
 use Rattle.std.proofs.Common.{◌≡◌, ◌++◌, drop, take, length}
 use Rattle.std.specs.List.{flat_map}
-use Rattle.smodels_format.specs.SmodelsText.{symbol_line}
-use Rattle.smodels_format.specs.Writing.{with_names}
+use Rattle.smodels_format.specs.Written.{symbol_line}
+use Rattle.smodels_format.specs.private.Writing.{with_names}
 use Rattle.smodels_format.proofs.push_shows.push_symbols.Given as goal
 
 abbrev pub invariant-loop-i : goal.invariant-loop-i

@@ -1,6 +1,7 @@
+-- The atoms so far, with those that are left, are all of them, and there is a number for each.
 use Rattle.std.proofs.Common.{◌≡◌, ◌+◌, ◌≤◌, ◌^◌, ◌++◌, drop, length}
 use Rattle.ground_program.specs.Fresh.{new_atom}
-use Rattle.smodels_format.specs.Writing.{symbol_atoms}
+use Rattle.smodels_format.specs.private.Writing.{symbol_atoms}
 use Rattle.smodels_format.proofs.push_shows.symbol_atoms.Given as goal
 
 abbrev pub invariant-loop-show : goal.invariant-loop-show

@@ -1,3 +1,4 @@
+-- The last byte tells how the name ends.
 use Rattle.smodels_format.proofs.WrittenSteps.{ends-some}
 use Rattle.smodels_format.proofs.writability.ends_with_return.Goals as goal
 

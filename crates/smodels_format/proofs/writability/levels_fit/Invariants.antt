@@ -1,3 +1,4 @@
+-- What is true of the levels that are left is true of all.
 use Rattle.std.proofs.Common.{◌≡◌, drop, pos, int_le}
 use Rattle.std.specs.List.{list_all}
 use Rattle.smodels_format.proofs.writability.levels_fit.Given as goal

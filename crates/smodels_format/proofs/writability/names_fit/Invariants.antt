@@ -1,3 +1,4 @@
+-- What is true of the names that are left is true of all.
 use Rattle.std.proofs.Common.{◌≡◌, drop}
 use Rattle.std.specs.List.{list_all}
 use Rattle.smodels_format.specs.Writable.{is_writable_name}

@@ -1,7 +1,7 @@
 use Rattle.std.proofs.Common.{◌≡◌, length}
 use Rattle.asp_scan.specs.Tokens.{tokens}
 use Rattle.stable_check.specs.AtomsText.{atoms_of_tokens}
-use Rattle.stable_check.specs.Gathering.{onto}
+use Rattle.stable_check.specs.private.Gathering.{onto}
 use Rattle.stable_check.proofs.atoms_text.push_line.Given as goal
 
 abbrev pub invariant-atoms : goal.invariant-atoms

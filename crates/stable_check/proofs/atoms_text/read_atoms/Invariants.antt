@@ -1,7 +1,7 @@
 use Rattle.std.proofs.Common.{◌≡◌, length}
 use Rattle.asp_scan.specs.Lines.{lines_of}
 use Rattle.stable_check.specs.AtomsText.{atoms_of_lines}
-use Rattle.stable_check.specs.Gathering.{onto}
+use Rattle.stable_check.specs.private.Gathering.{onto}
 use Rattle.stable_check.proofs.atoms_text.read_atoms.Given as goal
 
 abbrev pub invariant-lines : goal.invariant-lines

@@ -1,6 +1,6 @@
 use Rattle.std.proofs.Common.{◌≡◌, ◌++◌, drop}
 use Rattle.asp_base.specs.Sets.{members}
-use Rattle.stable_check.specs.Parts.{pairs}
+use Rattle.stable_check.specs.private.Parts.{pairs}
 use Rattle.stable_check.proofs.checking.joined.Given as goal
 
 abbrev pub invariant-loop-edge : goal.invariant-loop-edge

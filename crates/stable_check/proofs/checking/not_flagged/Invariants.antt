@@ -1,6 +1,6 @@
 use Rattle.std.proofs.Common.{◌≡◌, ◌++◌, not, drop}
 use Rattle.std.specs.List.{filter}
-use Rattle.stable_check.specs.Parts.{flagged}
+use Rattle.stable_check.specs.private.Parts.{flagged}
 use Rattle.stable_check.proofs.checking.not_flagged.Given as goal
 
 abbrev pub invariant-loop-atom : goal.invariant-loop-atom

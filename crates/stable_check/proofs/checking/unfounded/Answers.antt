@@ -5,7 +5,7 @@ use Rattle.asp_base.specs.Sets.{members}
 use Rattle.ground_program.specs.Facts.{IsProgram}
 use Rattle.ground_program.specs.Ground.{Ground}
 use Rattle.ground_program.specs.Stable.{least}
-use Rattle.stable_check.specs.Parts.{flagged}
+use Rattle.stable_check.specs.private.Parts.{flagged}
 use Rattle.stable_check.proofs.VerdictLaws.{unfounded-is}
 use Rattle.stable_check.proofs.checking.unfounded.Goals as goal
 
@@ -14,7 +14,7 @@ returns c =
     let P : Ground = c.args.program.now in
     let set : List ℕ = c.args.set.now in
     let facts : IsProgram P = subst IsProgram c.program.view_is c.program.invariant in
-    let atoms : c.as_slice-atoms.result.now ≡ P.atoms = c.as_slice-atoms.ensures ∙ ap (λ (P : Ground). P.atoms) c.program.view_is in
+    let atoms : c.program.inside.atoms ≡ P.atoms = ap (λ (P : Ground). P.atoms) c.program.view_is in
     let flags : c.as_slice.result.now ≡ map (members set) P.atoms = c.as_slice.ensures.value ∙ c.in_ok-flags.ensures ∙ ap (map (members set)) atoms in
     let model : c.as_slice-2.result.now ≡ map (least P (members set)) P.atoms = c.as_slice-2.ensures.value ∙ c.in_ok-model.ensures (members set) flags in
     IfOk-weaker c.not_flagged.result _ _

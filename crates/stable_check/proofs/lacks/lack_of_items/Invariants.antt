@@ -1,6 +1,6 @@
 use Rattle.std.proofs.Common.{◌≡◌, ◌-◌, drop}
 use Rattle.asp_base.specs.Sets.{none}
-use Rattle.stable_check.specs.Lack.{flag, natural, naturals, total}
+use Rattle.stable_check.specs.private.Lack.{flag, natural, naturals, total}
 use Rattle.stable_check.proofs.lacks.lack_of_items.Given as goal
 
 abbrev pub invariant-loop-item : goal.invariant-loop-item

@@ -1,6 +1,6 @@
 use Rattle.std.proofs.Common.{◌≡◌, map, take}
 use Rattle.asp_base.specs.Sets.{none}
-use Rattle.stable_check.specs.Lack.{flag, lack}
+use Rattle.stable_check.specs.private.Lack.{flag, lack}
 use Rattle.stable_check.proofs.lacks.lacks.Given as goal
 
 abbrev pub invariant-loop-rule : goal.invariant-loop-rule

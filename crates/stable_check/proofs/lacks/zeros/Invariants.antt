@@ -1,5 +1,5 @@
 use Rattle.std.proofs.Common.{◌≡◌, ◌++◌, drop}
-use Rattle.stable_check.specs.Lack.{zeros}
+use Rattle.stable_check.specs.private.Lack.{zeros}
 use Rattle.stable_check.proofs.lacks.zeros.Given as goal
 
 abbrev pub invariant-loop-i : goal.invariant-loop-i

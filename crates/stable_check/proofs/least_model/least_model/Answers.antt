@@ -5,7 +5,7 @@ use Rattle.ground_program.specs.Facts.{IsProgram}
 use Rattle.ground_program.specs.Ground.{Ground}
 use Rattle.ground_program.specs.Stable.{grown}
 use Rattle.ground_program.specs.declared.program.Rule.{Rule}
-use Rattle.stable_check.specs.Lack.{flag}
+use Rattle.stable_check.specs.private.Lack.{flag}
 use Rattle.stable_check.proofs.LeastLaws.{least-by_flags}
 use Rattle.stable_check.proofs.least_model.least_model.Goals as goal
 
@@ -13,7 +13,7 @@ pub returns : goal.returns
 returns c =
     let P : Ground = c.args.program.now in
     let facts : IsProgram P = subst IsProgram c.program.view_is c.program.invariant in
-    let atoms : c.as_slice-atoms.result.now ≡ P.atoms = c.as_slice-atoms.ensures ∙ ap (λ (P : Ground). P.atoms) c.program.view_is in
+    let atoms : c.program.inside.atoms ≡ P.atoms = ap (λ (P : Ground). P.atoms) c.program.view_is in
     let rules : c.as_slice-rules.result.now ≡ P.rules = c.as_slice-rules.ensures ∙ ap (λ (P : Ground). P.rules) c.program.view_is in
     IfOk-weaker c.grown.result _ _
     (λ model e M flags. e

@@ -1,6 +1,6 @@
 use Rattle.std.proofs.Common.{◌≡◌, drop, length}
-use Rattle.stable_check.specs.Lack.{naturals}
-use Rattle.stable_check.specs.Links.{with_items}
+use Rattle.stable_check.specs.private.Lack.{naturals}
+use Rattle.stable_check.specs.private.Links.{with_items}
 use Rattle.stable_check.proofs.table.add_items.Given as goal
 
 abbrev pub invariant-loop-item : goal.invariant-loop-item

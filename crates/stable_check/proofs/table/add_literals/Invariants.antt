@@ -1,6 +1,6 @@
 use Rattle.std.proofs.Common.{◌≡◌, drop, length}
-use Rattle.stable_check.specs.Lack.{one_each}
-use Rattle.stable_check.specs.Links.{with_items}
+use Rattle.stable_check.specs.private.Lack.{one_each}
+use Rattle.stable_check.specs.private.Links.{with_items}
 use Rattle.stable_check.proofs.table.add_literals.Given as goal
 
 abbrev pub invariant-loop-lit : goal.invariant-loop-lit

@@ -1,6 +1,6 @@
 use Rattle.std.proofs.Common.{◌≡◌, ◌∙◌, ap, drop, length, ◌+◌, arith}
-use Rattle.stable_check.specs.Lack.{weighed}
-use Rattle.stable_check.specs.Links.{Table, with_rules}
+use Rattle.stable_check.specs.private.Lack.{weighed}
+use Rattle.stable_check.specs.private.Links.{Table, with_rules}
 use Rattle.stable_check.proofs.GrowthLaws.{length-with_items, with_rules-next}
 use Rattle.stable_check.proofs.table.occurrences.Goals as goal
 

@@ -1,5 +1,5 @@
 use Rattle.std.proofs.Common.{◌≡◌, drop, length, replicate, []}
-use Rattle.stable_check.specs.Links.{with_rules}
+use Rattle.stable_check.specs.private.Links.{with_rules}
 use Rattle.stable_check.proofs.table.occurrences.Given as goal
 
 abbrev pub invariant-loop-n : goal.invariant-loop-n

@@ -1,6 +1,6 @@
 use Rattle.std.proofs.Common.{◌≡◌, ◌-◌, drop}
 use Rattle.asp_base.specs.Sets.{members}
-use Rattle.stable_check.specs.Lack.{natural, naturals, total}
+use Rattle.stable_check.specs.private.Lack.{natural, naturals, total}
 use Rattle.stable_check.proofs.truth.lack.Given as goal
 
 abbrev pub invariant-loop-item : goal.invariant-loop-item

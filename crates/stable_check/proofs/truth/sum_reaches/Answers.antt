@@ -1,6 +1,6 @@
 use Rattle.std.proofs.Common.{◌≡◌, ◌∙◌, ap, ◌==◌, ◌-◌, ℕ, rules}
 use Rattle.asp_base.specs.Sets.{members}
-use Rattle.stable_check.specs.Lack.{natural, naturals, total}
+use Rattle.stable_check.specs.private.Lack.{natural, naturals, total}
 use Rattle.stable_check.proofs.VerdictLaws.{sum-test}
 use Rattle.stable_check.proofs.truth.sum_reaches.Goals as goal
 

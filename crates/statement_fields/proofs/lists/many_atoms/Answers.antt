@@ -1,13 +1,13 @@
 use Rattle.std.proofs.Common.{arith}
 use Rattle.std.proofs.lemmas.Grind.{common_steps}
-use Rattle.statement_fields.proofs.SoFar.{SoFar-next, SoFar-fails}
+use Rattle.statement_fields.proofs.SoFar.{Pushing-next, Pushing-fails}
 use Rattle.statement_fields.proofs.lists.many_atoms.Goals as goal
 
 pub returns-in_err-atom-clause-err : goal.returns-in_err-atom-clause-err
 returns-in_err-atom-clause-err c =
-    let e = SoFar-fails _ c.loop-i.invariant c.loop-i-test.true c.in_err-atom.ensures.err in
+    let e = Pushing-fails _ c.loop-i.invariant c.loop-i-test.true c.in_err-atom.ensures.err in
     grind (arith, common_steps)
 
 pub loop-i-preserved : goal.loop-i-preserved
 loop-i-preserved c =
-    SoFar-next c.loop-i.invariant c.loop-i-test.true c.in_ok-atom.ensures.ok c.atom.ensures.rest c.in_ok-atom.ensures.fits c.in_ok-push.ensures.items
+    Pushing-next c.loop-i.invariant c.loop-i-test.true c.in_ok-atom.ensures.ok c.atom.ensures.rest c.in_ok-atom.ensures.fits c.in_ok-push.ensures.ok

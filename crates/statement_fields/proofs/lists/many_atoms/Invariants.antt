@@ -4,4 +4,4 @@ use Rattle.statement_fields.proofs.SoFar.{SoFar}
 use Rattle.statement_fields.proofs.lists.many_atoms.Given as goal
 
 abbrev pub invariant-loop-i : goal.invariant-loop-i
-invariant-loop-i l = SoFar atom IsAtom l.n l._i l.initial.scan l.scan l.atoms.items
+invariant-loop-i l = SoFar atom IsAtom l.n l._i l.initial.scan l.scan l.atoms

@@ -1,4 +1,4 @@
-use Rattle.statement_fields.proofs.Fronts.{front_kept, on_err}
+use Rattle.asp_scan.proofs.Appends.{front_kept, on_err}
 use Rattle.statement_fields.proofs.push.push_each_item.Goals as goal
 
 pub returns-in_err-push_item-clause-err : goal.returns-in_err-push_item-clause-err

@@ -1,7 +1,8 @@
 use Rattle.std.proofs.Common.{rules, refl, sym, subst, arith}
 use Rattle.std.specs.Prelude.{IsNone}
 use Rattle.std.proofs.lemmas.Grind.{common_steps}
-use Rattle.symbol_map.specs.MapText.{Refuses, empty_map}
+use Rattle.asp_base.specs.Faults.{Refuses}
+use Rattle.symbol_map.specs.Read.{empty_map}
 use Rattle.symbol_map.proofs.LinesSoFar.{LinesSoFar-next, LinesSoFar-fails}
 use Rattle.symbol_map.proofs.reading.entries.Goals as goal
 

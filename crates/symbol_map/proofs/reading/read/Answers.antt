@@ -1,4 +1,4 @@
-use Rattle.statement_fields.proofs.NoFeed.{next-no_feed}
+use Rattle.asp_scan.proofs.NoFeed.{next-no_feed}
 use Rattle.symbol_map.proofs.reading.read.Goals as goal
 
 pub entries-requires-clause-no_feed : goal.entries-requires-clause-no_feed

@@ -2,7 +2,7 @@ use Rattle.std.proofs.Common.{◌≡◌, ◌∙◌, ap, ◌∷◌, [], ◌++◌,
 use Rattle.std.specs.Fmt.{signed_decimal}
 use Rattle.statement_fields.specs.FieldWords.{item_words, spaced_before}
 use Rattle.statement_fields.proofs.LinePieces.{three_appends, front_more-line}
-use Rattle.symbol_map.specs.MapWriting.{priority_front}
+use Rattle.symbol_map.specs.private.Fronts.{priority_front}
 use Rattle.symbol_map.proofs.text.push_level.Goals as goal
 
 pub returns-clause-ok : goal.returns-clause-ok

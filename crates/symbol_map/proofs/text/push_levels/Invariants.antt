@@ -1,6 +1,6 @@
 use Rattle.std.proofs.Common.{◌≡◌, ◌++◌, take}
 use Rattle.std.specs.List.{flat_map}
-use Rattle.symbol_map.specs.MapWriting.{level_line}
+use Rattle.symbol_map.specs.Written.{level_line}
 use Rattle.symbol_map.proofs.text.push_levels.Given as goal
 
 abbrev pub invariant-loop-level : goal.invariant-loop-level

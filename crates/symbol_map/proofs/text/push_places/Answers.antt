@@ -1,4 +1,4 @@
-use Rattle.statement_fields.proofs.Fronts.{front_kept, on_err}
+use Rattle.asp_scan.proofs.Appends.{front_kept, on_err}
 use Rattle.symbol_map.proofs.text.push_places.Goals as goal
 
 pub returns-in_err-push_place-clause-err : goal.returns-in_err-push_place-clause-err

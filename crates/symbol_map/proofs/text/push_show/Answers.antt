@@ -1,7 +1,7 @@
 use Rattle.std.proofs.Common.{◌≡◌, ◌∙◌, ap, ap₂, length, decimal, ◌∷◌, [], ◌++◌, codes}
 use Rattle.statement_fields.specs.FieldWords.{literal_words, spaced_before}
 use Rattle.statement_fields.proofs.LinePieces.{three_appends, two_more-line}
-use Rattle.symbol_map.specs.MapWriting.{name_front}
+use Rattle.symbol_map.specs.private.Fronts.{name_front}
 use Rattle.symbol_map.proofs.text.push_show.Goals as goal
 
 pub returns-clause-ok : goal.returns-clause-ok

@@ -1,5 +1,5 @@
 use Rattle.std.proofs.Common.{rules, ◌<◌, ◌^◌, length}
-use Rattle.symbol_map.proofs.NamesFit.{appended-read}
+use Rattle.symbol_map.proofs.MapRoundTrip.{appended-read}
 use Rattle.symbol_map.proofs.text.write.Goals as goal
 
 pub returns-else-is_err-clause-read_back : goal.returns-else-is_err-clause-read_back

@@ -1,8 +1,8 @@
 use Rattle.std.proofs.Common.{sym, ◌∙◌}
-use Rattle.asp_scan.proofs.Fronts.{behind-shorter, with_rest-rest}
+use Rattle.asp_scan.proofs.LineTokens.{behind-shorter, with_rest-left}
 use Rattle.asp_scan.proofs.scan.Scan.next_number.Goals as goal
 
 pub returns-clause-shorter : goal.returns-clause-shorter
 returns-clause-shorter c =
-    rw (← c.self.view_is, with_rest-rest _ _ _ _ c.in_ok-value.ensures.ok)
+    rw (← c.self.view_is, ← with_rest-left _ _ _ _ c.in_ok-value.ensures.ok)
     (behind-shorter c.self.inside.left.now _ c.skip_blanks-token.ensures (sym c.is_empty.ensures ∙ c.if-is_empty.false))

@@ -1,5 +1,5 @@
 use Rattle.std.proofs.Common.{sym, ◌∙◌}
-use Rattle.asp_scan.proofs.Fronts.{behind-shorter}
+use Rattle.asp_scan.proofs.LineTokens.{behind-shorter}
 use Rattle.asp_scan.proofs.scan.Scan.next_word.Goals as goal
 
 pub returns-clause-shorter : goal.returns-clause-shorter

@@ -1,6 +1,6 @@
 use Rattle.std.proofs.Common.{◌≡◌, ◌<◌, length, arith, refl, ap}
-use Rattle.graph_cycles.specs.Arcs.{arc_at}
-use Rattle.graph_cycles.specs.Searching.{is_unseen}
+use Rattle.graph_cycles.specs.private.Arcs.{arc_at}
+use Rattle.graph_cycles.specs.private.Searching.{is_unseen}
 use Rattle.graph_cycles.specs.declared.descent.Mark.TheVariants.{OnPath}
 use Rattle.graph_cycles.proofs.SearchingLaws.{mark-set-same, searching-open, seen-set}
 use Rattle.graph_cycles.proofs.descent.Descent.descend.Goals as goal

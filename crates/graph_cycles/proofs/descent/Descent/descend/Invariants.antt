@@ -1,5 +1,5 @@
 use Rattle.std.proofs.Common.{◌≡◌, false}
-use Rattle.graph_cycles.specs.Searching.{Descends, StaysSeen, is_unseen, mark_at, weight_of}
+use Rattle.graph_cycles.specs.private.Searching.{Descends, StaysSeen, is_unseen, mark_at, weight_of}
 use Rattle.graph_cycles.proofs.descent.Descent.descend.Given as goal
 
 abbrev pub invariant-loop-self : goal.invariant-loop-self

@@ -1,8 +1,8 @@
 use Rattle.std.proofs.Common.{◌≡◌, ◌<◌, false, length, w32, arith, ap, sym, ◌∙◌, subst}
 use Rattle.std.proofs.lemmas.Int.{to_z-of_z}
-use Rattle.graph_cycles.specs.Arcs.{Starts}
+use Rattle.graph_cycles.specs.private.Arcs.{Starts}
 use Rattle.std.proofs.lemmas.List.{get_or_read}
-use Rattle.graph_cycles.specs.Searching.{mark_at, is_unseen}
+use Rattle.graph_cycles.specs.private.Searching.{mark_at, is_unseen}
 use Rattle.graph_cycles.specs.declared.descent.Mark.TheVariants.{Done}
 use Rattle.graph_cycles.proofs.SearchingLaws.{not-unseen, seen-settled, settled-after, stays-after}
 use Rattle.graph_cycles.proofs.descent.Descent.explore.Goals as goal

@@ -1,6 +1,6 @@
 use Rattle.std.proofs.Common.{rules, ◌≡◌, ◌∙◌, ap, ap₂, ◌<◌, [], get_or, length}
 use Rattle.ground_program.specs.Ground.{Ground}
-use Rattle.ground_program.specs.Gaps.{gaps_of, inside_below, outside}
+use Rattle.ground_program.specs.private.Gaps.{gaps_of, inside_below, outside}
 use Rattle.ground_program.proofs.GapLaws.{gaps-begin}
 use Rattle.ground_program.proofs.fresh.FreshAtoms.new.Goals as goal
 

@@ -1,5 +1,5 @@
 use Rattle.std.proofs.Common.{◌<◌, ◌+◌, ◌^◌, length, length-append, arith}
-use Rattle.ground_program.specs.Gaps.{outside, inside_below}
+use Rattle.ground_program.specs.private.Gaps.{outside, inside_below}
 use Rattle.ground_program.proofs.FreshLaws.{is-least_free, least_free-most}
 use Rattle.ground_program.proofs.GapLaws.{gaps-least}
 use Rattle.ground_program.proofs.fresh.FreshAtoms.next.Goals as goal

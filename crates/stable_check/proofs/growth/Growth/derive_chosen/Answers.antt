@@ -1,5 +1,5 @@
 use Rattle.std.proofs.Common.{◌∙◌, ap, sym, drop, length, get_or, ◌+◌, arith}
-use Rattle.stable_check.specs.Growth.{Growing, derive_chosen}
+use Rattle.stable_check.specs.private.Growth.{Growing, derive_chosen}
 use Rattle.stable_check.proofs.GrowthLaws.{derived-derive_if_chosen, lacks-derive_if_chosen, derive_chosen-next}
 use Rattle.stable_check.proofs.growth.Growth.derive_chosen.Goals as goal
 

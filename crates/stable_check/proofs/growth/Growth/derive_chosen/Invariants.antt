@@ -1,5 +1,5 @@
 use Rattle.std.proofs.Common.{◌≡◌, drop, length}
-use Rattle.stable_check.specs.Growth.{derive_chosen}
+use Rattle.stable_check.specs.private.Growth.{derive_chosen}
 use Rattle.stable_check.proofs.growth.Growth.derive_chosen.Given as goal
 
 abbrev pub invariant-loop-head : goal.invariant-loop-head

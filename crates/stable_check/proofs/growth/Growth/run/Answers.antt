@@ -3,11 +3,11 @@ use Rattle.std.proofs.lemmas.List.{length-map, length-replicate, length_push}
 use Rattle.ground_program.specs.Facts.{Among, RuleFits}
 use Rattle.ground_program.specs.declared.program.Head.{Head}
 use Rattle.ground_program.specs.declared.program.Rule.{Rule}
-use Rattle.stable_check.specs.Lack.{flag}
-use Rattle.stable_check.specs.Links.{Table, with_rules}
-use Rattle.stable_check.specs.UnderWay.{IsUnderWay}
-use Rattle.stable_check.specs.Growth.{Growing, derive_head}
-use Rattle.stable_check.proofs.Elements.{each-get}
+use Rattle.stable_check.specs.private.Lack.{flag}
+use Rattle.stable_check.specs.private.Links.{Table, with_rules}
+use Rattle.stable_check.specs.private.UnderWay.{IsUnderWay}
+use Rattle.stable_check.specs.private.Growth.{Growing, derive_head}
+use Rattle.asp_base.proofs.Each.{each-get}
 use Rattle.stable_check.proofs.GrowthLaws.{work, work-derive_head}
 use Rattle.stable_check.proofs.RowLaws.{length-with_rules}
 use Rattle.stable_check.proofs.Derivation.{lacks-within, ready-lacks, next-step, derived-at_end}
@@ -17,8 +17,8 @@ pub bounds-rules-rule : goal.bounds-rules-rule
 bounds-rules-rule c =
     let g : Growing = c.loop-rule.self in
     let was : g.counts.ready ≡ c.next_ready.new.self.ready ++ (c.in-Some.rule ∷ []) = ap (λ (g : Growing). g.counts.ready) (sym c.self.view_is) ∙ c.in-Some.ensures.some.0 in
-    lacks-within c.args.atoms.now c.args.rules.now c.args.set.now c.requires.rise c.requires.fit (λ r. ⊥) g c.loop-rule.invariant c.in-Some.rule
-    (ready-lacks c.args.atoms.now c.args.rules.now c.args.set.now c.requires.rise c.requires.fit g c.next_ready.new.self.ready c.in-Some.rule was c.loop-rule.invariant)
+    lacks-within c.args.atoms.now c.args.rules.now c.args.set.now c.requires.begun.rise c.requires.fit (λ r. ⊥) g c.loop-rule.invariant c.in-Some.rule
+    (ready-lacks c.args.atoms.now c.args.rules.now c.args.set.now c.requires.begun.rise c.requires.fit g c.next_ready.new.self.ready c.in-Some.rule was c.loop-rule.invariant)
 
 pub derive_head-requires-clause-rows : goal.derive_head-requires-clause-rows
 derive_head-requires-clause-rows c =
@@ -32,8 +32,8 @@ derive_head-requires-clause-fits c =
     let g : Growing = c.loop-rule.self in
     let was : g.counts.ready ≡ c.next_ready.new.self.ready ++ (c.in-Some.rule ∷ []) = ap (λ (g : Growing). g.counts.ready) (sym c.self.view_is) ∙ c.in-Some.ensures.some.0 in
     let within : c.in-Some.rule < length c.args.rules.now =
-    lacks-within c.args.atoms.now c.args.rules.now c.args.set.now c.requires.rise c.requires.fit (λ r. ⊥) g c.loop-rule.invariant c.in-Some.rule
-    (ready-lacks c.args.atoms.now c.args.rules.now c.args.set.now c.requires.rise c.requires.fit g c.next_ready.new.self.ready c.in-Some.rule was c.loop-rule.invariant) in
+    lacks-within c.args.atoms.now c.args.rules.now c.args.set.now c.requires.begun.rise c.requires.fit (λ r. ⊥) g c.loop-rule.invariant c.in-Some.rule
+    (ready-lacks c.args.atoms.now c.args.rules.now c.args.set.now c.requires.begun.rise c.requires.fit g c.next_ready.new.self.ready c.in-Some.rule was c.loop-rule.invariant) in
     (each-get (RuleFits (Among c.args.atoms.now)) c.args.rules.now c.in-Some.rule c.index-rules-rule.result within c.requires.fit).0
 
 -- what the heads of the rule that was ready leave
@@ -68,11 +68,11 @@ loop-rule-preserved c =
     let was : g.counts.ready ≡ c.next_ready.new.self.ready ++ (c.in-Some.rule ∷ []) = ap (λ (g : Growing). g.counts.ready) (sym c.self.view_is) ∙ c.in-Some.ensures.some.0 in
     let is : rule ≡ get_or c.args.rules.now c.in-Some.rule rule = ap (get_or c.args.rules.now c.in-Some.rule) c.index-rules-rule.is in
     subst (IsUnderWay c.args.atoms.now c.args.rules.now (flag c.args.atoms.now c.args.set.now) (λ r. ⊥)) (sym (stepped c))
-    (next-step c.args.atoms.now c.args.rules.now c.args.set.now c.requires.rise c.requires.fit g c.next_ready.new.self.ready c.in-Some.rule rule was is c.loop-rule.invariant)
+    (next-step c.args.atoms.now c.args.rules.now c.args.set.now c.requires.begun.rise c.requires.fit g c.next_ready.new.self.ready c.in-Some.rule rule was is c.loop-rule.invariant)
 
 pub returns : goal.returns
 returns c =
     let g : Growing = c.loop-rule.self in
     let done : g.counts.ready ≡ [] = ap (λ (g : Growing). g.counts.ready) (sym c.self.view_is) ∙ (c.in_default.ensures.none refl).0 in
     ap (λ (g : Growing). g.derived) c.self.view_is
-    ∙ derived-at_end c.args.atoms.now c.args.rules.now c.args.set.now c.requires.rise c.requires.fit g c.loop-rule.invariant done
+    ∙ derived-at_end c.args.atoms.now c.args.rules.now c.args.set.now c.requires.begun.rise c.requires.fit g c.loop-rule.invariant done

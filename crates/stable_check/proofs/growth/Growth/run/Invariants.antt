@@ -1,5 +1,5 @@
-use Rattle.stable_check.specs.Lack.{flag}
-use Rattle.stable_check.specs.UnderWay.{IsUnderWay}
+use Rattle.stable_check.specs.private.Lack.{flag}
+use Rattle.stable_check.specs.private.UnderWay.{IsUnderWay}
 use Rattle.stable_check.proofs.GrowthLaws.{work}
 use Rattle.stable_check.proofs.growth.Growth.run.Given as goal
 

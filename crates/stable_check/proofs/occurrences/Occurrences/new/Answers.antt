@@ -1,6 +1,6 @@
 use Rattle.std.proofs.Common.{◌∙◌, ap, ap₂, ℕ, List}
 use Rattle.stable_check.specs.declared.occurrences.Link.{Link}
-use Rattle.stable_check.specs.Links.{Entry, rows_of}
+use Rattle.stable_check.specs.private.Links.{Entry, rows_of}
 use Rattle.stable_check.proofs.LinkLaws.{rows-none}
 use Rattle.stable_check.proofs.occurrences.Occurrences.new.Goals as goal
 

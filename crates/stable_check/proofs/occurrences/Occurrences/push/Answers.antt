@@ -1,7 +1,7 @@
 use Rattle.std.proofs.Common.{◌≡◌, ◌∙◌, ap, ap₂, ℕ, suc, ◌<◌, List, length, set, arith}
 use Rattle.std.proofs.lemmas.List.{get_or_default}
 use Rattle.stable_check.specs.declared.occurrences.Link.{Link}
-use Rattle.stable_check.specs.Links.{Entry, Table, rows_of, with_entry}
+use Rattle.stable_check.specs.private.Links.{Entry, Table, rows_of, with_entry}
 use Rattle.stable_check.proofs.LinkLaws.{rows-push, linked-push, length-rows}
 use Rattle.stable_check.proofs.occurrences.Occurrences.push.Goals as goal
 

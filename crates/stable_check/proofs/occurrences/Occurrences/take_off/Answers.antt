@@ -1,7 +1,7 @@
 use Rattle.std.proofs.Common.{◌≢◌, ◌∙◌, ap, sym, ◌<◌, ◌-◌, length, reverse, get_or, arith}
 use Rattle.std.proofs.lemmas.List.{length-set}
-use Rattle.stable_check.specs.Growth.{Counts, take_off_all}
-use Rattle.stable_check.specs.Links.{Entry, chain}
+use Rattle.stable_check.specs.private.Growth.{Counts, take_off_all}
+use Rattle.stable_check.specs.private.Links.{Entry, chain}
 use Rattle.stable_check.proofs.LinkLaws.{Leads, leads-read, chain-none}
 use Rattle.stable_check.proofs.occurrences.Occurrences.take_off.Goals as goal
 

@@ -1,6 +1,6 @@
 use Rattle.std.proofs.Common.{◌≡◌, ◌≤◌, length, reverse, get_or, []}
-use Rattle.stable_check.specs.Growth.{take_off_all}
-use Rattle.stable_check.specs.Links.{chain}
+use Rattle.stable_check.specs.private.Growth.{take_off_all}
+use Rattle.stable_check.specs.private.Links.{chain}
 use Rattle.stable_check.proofs.occurrences.Occurrences.take_off.Given as goal
 
 abbrev pub invariant-loop-at : goal.invariant-loop-at

@@ -15,7 +15,7 @@ returns-in-Ok c =
     let same : places ≡ c.args.self.now.atoms = c.as_slice-places.ensures ∙ ap (λ m. m.atoms) c.self.view_is in
     let rise : PlacesRise 0 places = rw c.as_slice-places.ensures c.self.invariant.atoms_rise in
     let found = c.in-Ok.ensures.position (λ (place : Place). place.atom) (answers_always _ _ _ (λ f a r g k. search rules)) in
-    c.holds.ensures ∙ sym (atoms_true_at places values 0 c.args.atom c.in-Ok.i place rise c.in-Ok.ensures.bound (equal_from_cmp _ _ (found place)))
+    c.literal_holds.ensures ∙ sym (atoms_true_at places values 0 c.args.atom c.in-Ok.i place rise c.in-Ok.ensures.bound (equal_from_cmp _ _ (found place)))
     ∙ ap (λ ps. atoms_true ps values c.args.atom) same
 
 pub returns-in-Err : goal.returns-in-Err

@@ -1,4 +1,0 @@
-use Rattle.asp_tools.proofs.back.reply_to.Goals as goal
-
-pub returns-in-Err-clause-err : goal.returns-in-Err-clause-err
-returns-in-Err-clause-err c = c.in-Err.ensures.err c.args.map c.args.answer

@@ -1,6 +1,0 @@
-use Rattle.std.proofs.Common.{◌≡◌, ◌++◌, drop}
-use Rattle.asp_tools.specs.InputMap.{numbered}
-use Rattle.asp_tools.proofs.input_map.places_of.Given as goal
-
-abbrev pub invariant-loop-index : goal.invariant-loop-index
-invariant-loop-index l = l.places.items ++ numbered l.index (drop l.index l.atoms) ≡ numbered 0 l.atoms

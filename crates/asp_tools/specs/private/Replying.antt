@@ -1,0 +1,44 @@
+-- Replies to texts that are taken apart.
+use Rattle.std.specs.Prelude.{◌≡◌, ⊤, ℕ, List, [], ◌∷◌, length, Result, Ok, if◌then◌else◌}
+use Rattle.asp_base.specs.Faults.{Fault}
+use Rattle.ground_program.specs.Ground.{Ground}
+use Rattle.ground_program.specs.declared.reading.ReadKind.{ReadKind}
+use Rattle.clause_store.specs.Clauses.{Clauses}
+use Rattle.dimacs_format.specs.Read.{formula_of}
+use Rattle.symbol_map.specs.Symbols.{Symbols}
+use Rattle.symbol_map.specs.Read.{map_of}
+use Rattle.asp_tools.specs.Calls.{makes}
+use Rattle.asp_tools.specs.SatAnswers.{OfGround, OfProgram}
+use Rattle.asp_tools.specs.SatInOrder.{IsCompletion}
+use Rattle.asp_tools.specs.declared.command.Command.TheVariants.{Lp2sat}
+use Rattle.asp_tools.specs.declared.answer.Answer.{Answer}
+use Rattle.asp_tools.specs.declared.answer.Answer.TheVariants.{Refused, TooLarge}
+
+-- nothing is said with an answer that says nothing of its own
+abbrev pub IsSilent : Answer → List ℕ → Type 0
+IsSilent (Refused refused) said = said ≡ []
+IsSilent (TooLarge number) said = said ≡ []
+IsSilent answer said = ⊤
+
+-- a reply with which something may be said, and nothing is made
+abbrev pub Replying : (Answer → List ℕ → Type 0) → Answer → List (List ℕ) → List ℕ → Type 0
+Replying Calls answer made said = Calls answer said × (made ≡ []) × IsSilent answer said
+
+-- the texts of a formula and of a map
+abbrev pub AreTextsOf : Clauses → Symbols → List (List ℕ) → Type 0
+AreTextsOf F m (target ∷ table ∷ []) = (formula_of target ≡ Ok F) × (map_of table ≡ Ok m)
+AreTextsOf F m made = ⊥
+
+-- both texts are made, or none is
+abbrev pub HasOutputs : Answer → List (List ℕ) → Type 0
+HasOutputs answer made = length made ≡ (if makes Lp2sat answer then 2 else 0)
+
+-- the reply of `lp2sat` to a program
+abbrev pub GroundReply : Ground → Answer → List (List ℕ) → List ℕ → Type 0
+GroundReply P answer made said =
+    OfGround P answer made × IsCompletion (Ok P) made × HasOutputs answer made × (said ≡ [])
+
+-- and to a text that is read so
+abbrev pub SatReply : Result Ground (Fault ReadKind) → Answer → List (List ℕ) → List ℕ → Type 0
+SatReply read answer made said =
+    OfProgram read answer made × IsCompletion read made × HasOutputs answer made × (said ≡ [])

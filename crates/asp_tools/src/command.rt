@@ -1,0 +1,87 @@
+//! The commands: each by its word, with the number of texts that it reads and writes, and its reply to texts.
+
+ghost use Rattle.std.specs.Prelude.{◌≡◌, ◌≤◌, ◌^◌, ℕ, Bool, false, List, [], length, IfOk, if◌then◌else◌};
+ghost use Rattle.std.specs.List.{AllByRecursion};
+ghost use Rattle.asp_tools.specs.Calls.{command_of, reads_of, writes_of, makes, says};
+ghost use Rattle.asp_tools.specs.CallsInOrder.{calls_in_order};
+
+use crate::answer::Answer;
+use crate::{back, checking, lp2sat};
+use asp_base::{ByteList, Memory, VecList};
+use job_shell::Reply;
+use std::alloc::Global;
+
+/// What the tools do.
+#[derive(Clone, Copy, Debug, PartialEq, Eq)]
+pub enum Command {
+    /// `lp2sat IN OUT MAP`: the formula and the map of the program of IN.
+    Lp2sat,
+    /// `back FORMULA MAP ANSWER`: what a solver's answer to the formula says of the program.
+    Back,
+    /// `check IN ATOMS`: whether the set of the atoms is a stable model of the program of IN.
+    Check,
+}
+
+impl Command {
+    /// The command of this word.
+    pub fn of_word(word: &str) -> Option<Command>
+        ensures { result ≡ command_of word.now }
+    {
+        match word {
+            "lp2sat" => Some(Command::Lp2sat),
+            "back" => Some(Command::Back),
+            "check" => Some(Command::Check),
+            _ => None,
+        }
+    }
+
+    /// The number of texts that are read.
+    pub fn reads(self) -> usize
+        ensures { result ≡ reads_of self }
+    {
+        match self {
+            Command::Lp2sat => 1,
+            Command::Back => 3,
+            Command::Check => 2,
+        }
+    }
+
+    /// The number of texts that are written.
+    pub fn writes(self) -> usize
+        ensures { result ≡ writes_of self }
+    {
+        match self {
+            Command::Lp2sat => 2,
+            Command::Back | Command::Check => 0,
+        }
+    }
+}
+
+impl job_shell::Command for Command {
+    type Answer = Answer;
+
+    ghost answers = { calls_in_order };
+
+    ghost makes = { makes };
+
+    ghost says = { says };
+
+    ghost inputs = { reads_of };
+
+    ghost outputs = { writes_of };
+
+    fn reply(&self, alloc: Global, texts: VecList<ByteList>) -> Result<Reply<Answer>, Memory>
+        requires count { length texts ≡ reads_of self.now }
+        requires within { AllByRecursion (λ text. length text ≤ 2 ^ 30) texts }
+        ensures answers { IfOk result (λ r. calls_in_order self.now texts r.answer r.made r.said) }
+        ensures made { IfOk result (λ r. length r.made
+            ≡ (if makes self.now r.answer then writes_of self.now else 0)) }
+        ensures said { IfOk result (λ r. says self.now r.answer ≡ false → r.said ≡ []) }
+    {
+        match self {
+            Command::Lp2sat => lp2sat::reply(alloc, texts),
+            Command::Back => back::reply(alloc, texts),
+            Command::Check => checking::reply(alloc, texts),
+        }
+    }
+}

@@ -1,0 +1,34 @@
+//! Replies with which nothing is made.
+
+ghost use Rattle.std.specs.Prelude.{◌≡◌, ◌∷◌, [], false};
+ghost use Rattle.asp_tools.specs.private.Long.{is_long_kind};
+
+use crate::answer::{Answer, Refused};
+use crate::outcome::Kind;
+use asp_base::VecList;
+use job_shell::Reply;
+use std::alloc::Global;
+
+/// An answer, and what is said with it.
+pub(crate) fn saying(alloc: Global, answer: Answer, said: Vec<u8>) -> Reply<Answer>
+    ensures answer { result.answer ≡ answer }
+    ensures made { result.made ≡ [] }
+    ensures said { result.said ≡ said.items }
+{
+    Reply {
+        answer,
+        made: VecList::new(alloc),
+        said: VecList::from_vec(said),
+    }
+}
+
+/// The file of this place is refused for this line.
+pub(crate) fn refused(alloc: Global, file: u32, line: u64, kind: Kind) -> Reply<Answer>
+    requires { is_long_kind kind ≡ false }
+    ensures answer { result.answer ≡ Answer.Refused (record { file = file; line = line; kind = kind }) }
+    ensures made { result.made ≡ [] }
+    ensures said { result.said ≡ [] }
+{
+    let refused = Refused::new(file, line, kind);
+    saying(alloc, Answer::Refused(refused), Vec::new(alloc))
+}

@@ -1,7 +1,0 @@
-use Rattle.std.proofs.Common.{◌≡◌, ◌++◌, take}
-use Rattle.std.specs.List.{flat_map}
-use Rattle.aspif_format.specs.AspifText.{show_line}
-use Rattle.aspif_format.proofs.written.push_shows.Given as goal
-
-abbrev pub invariant-loop-show : goal.invariant-loop-show
-invariant-loop-show l = l.out.items ≡ l.fn.out.items ++ flat_map show_line (take l.show-index l.shows)

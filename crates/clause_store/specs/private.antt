@@ -1,0 +1,6 @@
+-- Definitions that private functions and the insides of types use; no contract of a public call
+-- names them.
+pub mod Cut
+pub mod InsideFormula
+pub mod InsideStore
+pub mod Kept

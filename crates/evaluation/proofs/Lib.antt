@@ -1,0 +1,2 @@
+mod FirstOnes
+mod Weights

@@ -1,0 +1,4 @@
+pub mod IndexLaws
+pub mod MarkLaws
+pub mod PlaceLaws
+pub mod RisingLaws

@@ -1,0 +1,4 @@
+pub mod BuiltLaws
+pub mod InputMapLaws
+pub mod IsInputMap
+mod RenamedLaws

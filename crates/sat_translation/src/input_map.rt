@@ -1,0 +1,114 @@
+//! The map of a completion: the atoms, the names and the levels of the program over its variables. What the map keeps
+//! of the program stays where it is in memory: names are not copied, and shows are renamed in place.
+
+ghost use Rattle.std.specs.Prelude.{◌≡◌, ◌≤◌, ◌-◌, ◌^◌, length, map, IfOk, OnOk};
+ghost use Rattle.std.specs.List.{AllByRecursion};
+ghost use Rattle.asp_base.specs.Literal.{atom_of};
+ghost use Rattle.sat_translation.specs.InputMap.{input_map, numbered, literals_over, items_over, show_over, level_over};
+ghost use Rattle.completion.specs.Completion.{completion};
+ghost use Rattle.ground_program.specs.Facts.{Among, LiteralsFit, FitsWeight, ShowFits, LevelFits};
+ghost use Rattle.ground_program.specs.Size.{size};
+
+use asp_base::{Lit, Memory};
+use ground_program::{Atoms, ItemList, Level, LevelList, LitList, Program, Show, ShowList};
+use std::alloc::Global;
+use symbol_map::{Form, Place, PlaceList, SymbolMap};
+
+/// The map of a program's completion, which has this number of variables. The program's rules are let go first.
+pub(crate) fn input_map(alloc: Global, program: Program, vars: u32) -> Result<SymbolMap, Memory>
+    requires vars { vars ≡ (completion program).vars }
+    requires small { size program ≤ 2 ^ 24 }
+    requires room { vars ≤ 2 ^ 31 - 1 }
+    ensures { IfOk result (λ map. map ≡ input_map program) }
+{
+    let Program {
+        atoms,
+        rules,
+        levels,
+        shows,
+        ..
+    } = program;
+    drop(rules);
+    let shows = shows_over(alloc, &atoms, shows)?;
+    let levels = levels_over(alloc, &atoms, levels)?;
+    let atoms = places_of(alloc, &atoms)?;
+    Ok(SymbolMap {
+        form: Form::Cnf,
+        vars,
+        atoms,
+        shows,
+        levels,
+    })
+}
+
+/// Each atom at the next variable.
+fn places_of(alloc: Global, atoms: &Atoms) -> Result<PlaceList, Memory>
+    ensures { IfOk result (λ places. places ≡ numbered 0 atoms.now) }
+{
+    let mut places = Vec::with_capacity(alloc, atoms.len())?;
+    for (index, atom) in atoms.as_slice().iter().enumerate() {
+        let lit = Lit::positive(index as u32 + 1);
+        places.push(Place { atom: *atom, lit })?;
+    }
+    Ok(PlaceList::from_vec(places))
+}
+
+/// The shows over variables, with the names that they have.
+fn shows_over(alloc: Global, atoms: &Atoms, shows: ShowList) -> Result<ShowList, Memory>
+    requires { AllByRecursion (ShowFits (Among atoms.now)) shows }
+    ensures { IfOk result (λ list. list ≡ map (show_over atoms.now) shows) }
+{
+    let mut renamed = shows.into_vec();
+    for show in renamed.iter_mut() {
+        rename(alloc, atoms, show)?;
+    }
+    Ok(ShowList::from_vec(renamed))
+}
+
+/// Puts the condition of a show over variables.
+fn rename(alloc: Global, atoms: &Atoms, show: &mut Show) -> Result<(), Memory>
+    requires { ShowFits (Among atoms.now) show.old }
+    ensures { OnOk result (show.new ≡ show_over atoms.now show.old) }
+{
+    show.condition = literals_over(alloc, atoms, show.condition.as_slice())?;
+    Ok(())
+}
+
+/// The levels over variables.
+fn levels_over(alloc: Global, atoms: &Atoms, levels: LevelList) -> Result<LevelList, Memory>
+    requires { AllByRecursion (LevelFits (Among atoms.now)) levels }
+    ensures { IfOk result (λ list. list ≡ map (level_over atoms.now) levels) }
+{
+    let mut renamed = Vec::new(alloc);
+    for level in levels.as_slice() {
+        renamed.push(Level {
+            priority: level.priority,
+            items: items_over(alloc, atoms, level.items.as_slice())?,
+        })?;
+    }
+    Ok(LevelList::from_vec(renamed))
+}
+
+/// The literals over variables.
+fn literals_over(alloc: Global, atoms: &Atoms, lits: &[Lit]) -> Result<LitList, Memory>
+    requires { LiteralsFit (Among atoms.now) lits.now }
+    ensures { IfOk result (λ list. list ≡ literals_over atoms.now lits.now) }
+{
+    let mut renamed = LitList::new(alloc);
+    for lit in lits {
+        renamed.push(atoms.literal_over(*lit))?;
+    }
+    Ok(renamed)
+}
+
+/// The items over variables, with the weights that they have.
+fn items_over(alloc: Global, atoms: &Atoms, items: &[(Lit, i64)]) -> Result<ItemList, Memory>
+    requires { AllByRecursion (λ item. Among atoms.now (atom_of item.0) × FitsWeight item.1) items.now }
+    ensures { IfOk result (λ list. list ≡ items_over atoms.now items.now) }
+{
+    let mut renamed = Vec::new(alloc);
+    for (lit, weight) in items {
+        renamed.push((atoms.literal_over(*lit), *weight))?;
+    }
+    Ok(ItemList::from_vec(renamed))
+}

@@ -1,0 +1,6 @@
+-- Definitions that private functions and the insides of types use; no contract of a public call
+-- names them.
+pub mod EntryFacts
+pub mod Fronts
+pub mod Inside
+pub mod InsideDraft
