@@ -7,7 +7,8 @@ use Rattle.ground_program.specs.Draft.{Draft}
 use Rattle.ground_program.specs.declared.reading.ReadKind.{ReadKind}
 use Rattle.statement_fields.specs.FieldWords.{spaced_before}
 use Rattle.statement_fields.proofs.LineSteps.{Adding, line-adding}
-use Rattle.aspif_format.specs.Read.{Statement, Adds, Ends, statement, statements, ended_text}
+use Rattle.aspif_format.specs.Read.{Statement, Adds, Ends, statement, statements}
+use Rattle.statement_fields.specs.Parts.{ended_text}
 
 abbrev behind_statement : ℕ → ℕ → List Line → Draft → Result Statement ReadKind → Result Draft (Fault ReadKind)
 behind_statement last n lines draft said = elim said as (λ x. Result Draft (Fault ReadKind)) [

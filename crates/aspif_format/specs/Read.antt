@@ -6,11 +6,12 @@ use Rattle.std.specs.Str.{bytes_eq}
 use Rattle.asp_scan.specs.Lines.{Line, lines_of, end_line}
 use Rattle.asp_scan.specs.Tokens.{token_at, integer_of}
 use Rattle.statement_fields.specs.Fields.{Reading, unless, number, natural, count, atom, literal, body_weight, weight, small, not_negative, choice, many, counted, item, ended, name, word}
+use Rattle.statement_fields.specs.Parts.{plain_head, ended_text}
 use Rattle.ground_program.specs.Ground.{Ground}
 use Rattle.ground_program.specs.Draft.{Draft, empty_draft, with_rule, with_required, with_edge, with_level, with_show, with_external, program_of}
 use Rattle.asp_base.specs.Faults.{◌>>=◌, Fault, fault}
 use Rattle.ground_program.specs.declared.program.Head.{Head}
-use Rattle.ground_program.specs.declared.program.Head.TheVariants.{Nothing, One, Choice}
+use Rattle.ground_program.specs.declared.program.Head.TheVariants.{Choice}
 use Rattle.ground_program.specs.declared.program.Body.{Body}
 use Rattle.ground_program.specs.declared.program.Body.TheVariants.{All, Sum}
 use Rattle.ground_program.specs.declared.builder.External.{External}
@@ -33,14 +34,6 @@ abbrev pub body : List ℕ → Reading Body
 body line = do
   kind ← choice 1 line
   body_of_kind kind.0 kind.1
-
--- no atom or one; two and more are refused at their number
-abbrev pub plain_head : ℕ → List ℕ → Reading Head
-plain_head zero line = Ok (Nothing, line)
-plain_head (suc zero) line = do
-  a ← atom line
-  Ok (One a.0, a.1)
-plain_head (suc (suc n)) line = Err kinds.Disjunction
 
 abbrev pub head_of_kind : ℕ → ℕ → List ℕ → Reading Head
 head_of_kind zero n line = plain_head n line
@@ -142,11 +135,6 @@ statement draft line = do
       (by_number (natural n.0) draft n.1)
 
 -- ---- the text
-
--- behind the end of the text there are blank lines only
-abbrev pub ended_text : Draft → List Line → Result Draft (Fault ReadKind)
-ended_text draft [] = Ok draft
-ended_text draft (line ∷ lines) = fault line.number kinds.TrailingText
 
 -- the statements of the lines
 abbrev pub statements : ℕ → Draft → List Line → Result Draft (Fault ReadKind)

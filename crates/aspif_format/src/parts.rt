@@ -3,11 +3,13 @@
 ghost use Rattle.std.specs.Prelude.{◌≡◌, ◌≤◌, ◌^◌, Ok, Err, IfOk, IfErr};
 ghost use Rattle.ground_program.specs.Facts.{IsAtom, HeadFits, BodyFits};
 ghost use Rattle.statement_fields.specs.Fields.{Faults};
-ghost use Rattle.aspif_format.specs.Read.{head, head_of_kind, plain_head, body, body_of_kind};
+ghost use Rattle.aspif_format.specs.Read.{head, head_of_kind, body, body_of_kind};
 
 use asp_scan::Scan;
-use ground_program::{Body, Head, ReadKind};
-use statement_fields::{FieldFault, atom, body_items, choice, count, literals, many_atoms, weight};
+use ground_program::{Body, Head};
+use statement_fields::{
+    FieldFault, body_items, choice, count, literals, many_atoms, plain_head, weight,
+};
 use std::alloc::Global;
 
 /// The head of a rule: a plain one or a choice, and its atoms.
@@ -33,20 +35,6 @@ fn head_of_kind(alloc: Global, scan: &mut Scan<'_>, kind: u32, n: u32) -> Result
     match kind {
         0 => Ok(plain_head(scan, n)?),
         _ => Ok(Head::Choice(many_atoms(alloc, scan, n)?)),
-    }
-}
-
-/// No atom or one: two and more are refused at their number.
-fn plain_head(scan: &mut Scan<'_>, n: u32) -> Result<Head, ReadKind>
-    ensures ok { IfOk result (λ h. plain_head n scan.old.left ≡ Ok (h, scan.new.left)) }
-    ensures err { IfErr result (λ kind. plain_head n scan.old.left ≡ Err kind) }
-    ensures fits { IfOk result (λ h. HeadFits IsAtom h) }
-    ensures rest { scan.new ≡ record scan.old { left = scan.new.left } }
-{
-    match n {
-        0 => Ok(Head::Nothing),
-        1 => Ok(Head::One(atom(scan)?)),
-        _ => Err(ReadKind::Disjunction),
     }
 }
 

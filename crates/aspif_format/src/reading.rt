@@ -4,13 +4,13 @@
 ghost use Rattle.std.specs.Prelude.{◌≡◌, Ok, OnOk, IfOk, IfErr};
 ghost use Rattle.asp_base.specs.Faults.{Refuses};
 ghost use Rattle.asp_scan.specs.Feeds.{HaveNoFeed};
-ghost use Rattle.ground_program.specs.Draft.{Draft};
-ghost use Rattle.aspif_format.specs.Read.{statements, ended_text, aspif_of};
+ghost use Rattle.aspif_format.specs.Read.{statements, aspif_of};
 
 use crate::header::header_line;
 use crate::statement::{Step, statement};
 use asp_scan::Scan;
 use ground_program::{Program, ProgramBuilder, ReadKind, ReadRefusal};
+use statement_fields::ended_text;
 use std::alloc::Global;
 
 /// The program of an aspif text. Refused with the first fault and its line, where the tokens are checked from left to
@@ -48,18 +48,4 @@ fn statements(
         line: scan.line(),
         kind: ReadKind::NoEnd,
     })
-}
-
-/// Behind the end of the text there are blank lines only.
-fn ended_text(scan: &mut Scan<'_>) -> Result<(), ReadRefusal>
-    ensures ok { OnOk result ((draft : Draft) → ended_text draft scan.old.ahead ≡ Ok draft) }
-    ensures err { IfErr result (λ refusal. (draft : Draft) → Refuses (ended_text draft scan.old.ahead) refusal) }
-{
-    if scan.next_line() {
-        return Err(ReadRefusal::At {
-            line: scan.line(),
-            kind: ReadKind::TrailingText,
-        });
-    }
-    Ok(())
 }

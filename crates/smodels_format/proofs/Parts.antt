@@ -11,7 +11,8 @@ use Rattle.asp_base.specs.declared.faults.Refusal.TheVariants.{At}
 use Rattle.statement_fields.specs.Fields.{Faults}
 use Rattle.asp_base.specs.declared.faults.LineFault.{LineFault}
 use Rattle.asp_base.specs.declared.faults.LineFault.TheVariants as faults
-use Rattle.smodels_format.specs.Read.{Entry, Adds, Ends, Stage, part, models, number_of_models, ended_text}
+use Rattle.smodels_format.specs.Read.{Entry, Adds, Ends, Stage, part, models, number_of_models}
+use Rattle.statement_fields.specs.Parts.{ended_text}
 
 pub refused : {A E : Type 0} (P : E → Type 0) {r : Result A E} {e : E} → r ≡ Err e → P e → IfErr r P
 refused P is h = subst (λ r. IfErr r P) (sym is) h

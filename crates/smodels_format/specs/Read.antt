@@ -1,17 +1,18 @@
 -- The program of an smodels text, or its first fault. (The ground text of smodels: T. Syrjänen,
 -- Lparse 1.0 user's manual, 2000; P. Simons, I. Niemelä, T. Soininen. Extending and implementing
 -- the stable model semantics. Artificial Intelligence 138, 2002.)
-use Rattle.std.specs.Prelude.{ℕ, zero, suc, ◌+◌, ◌-◌, nat_lt, ℤ, pos, int_lt, cond, List, [], ◌∷◌, ◌++◌, map, length, Some, None, Result, Ok, Err, codes}
+use Rattle.std.specs.Prelude.{ℕ, ◌+◌, ◌-◌, nat_lt, ℤ, pos, cond, List, [], ◌∷◌, ◌++◌, map, length, Some, None, Result, Ok, Err, codes}
 use Rattle.std.specs.Ordering.{int_eq}
 use Rattle.asp_base.specs.Literal.{Literal, Pos, Neg}
 use Rattle.asp_scan.specs.Lines.{Line, lines_of, end_line}
 use Rattle.asp_scan.specs.Tokens.{token_at, skip_blanks}
-use Rattle.statement_fields.specs.Fields.{Reading, unless, number, count, atom, body_weight, weight, choice, many, ended, word}
+use Rattle.statement_fields.specs.Fields.{Reading, unless, number, count, atom, body_weight, weight, choice, not_negative, many, ended, word}
+use Rattle.statement_fields.specs.Parts.{plain_head, ended_text}
 use Rattle.ground_program.specs.Ground.{Ground}
 use Rattle.ground_program.specs.Draft.{Draft, empty_draft, with_rule, with_required, with_level, with_show, program_of}
 use Rattle.asp_base.specs.Faults.{◌>>=◌, Fault, fault}
 use Rattle.ground_program.specs.declared.program.Head.{Head}
-use Rattle.ground_program.specs.declared.program.Head.TheVariants.{Nothing, One, Choice}
+use Rattle.ground_program.specs.declared.program.Head.TheVariants.{One, Choice}
 use Rattle.ground_program.specs.declared.program.Body.{Body}
 use Rattle.ground_program.specs.declared.program.Body.TheVariants.{All, Sum}
 use Rattle.ground_program.specs.declared.reading.ReadKind.{ReadKind}
@@ -102,18 +103,10 @@ minimize draft line = do
   ended (with_level (record { priority = pos (length draft.levels); items = found.0 }) draft)
       found.1
 
--- no atom or one; two and more are refused at their number
-abbrev pub head_of : ℕ → List ℕ → Reading Head
-head_of zero line = Ok (Nothing, line)
-head_of (suc zero) line = do
-  a ← atom line
-  Ok (One a.0, a.1)
-head_of (suc (suc n)) line = Err kinds.Disjunction
-
 abbrev pub disjunctive_rule : Draft → List ℕ → Result Draft ReadKind
 disjunctive_rule draft line = do
   n ← count line
-  h ← head_of n.0 n.1
+  h ← plain_head n.0 n.1
   ruled draft h.0 (plain_body h.1)
 
 -- ---- lines: one adds to the program, or it is the 0 that ends a part
@@ -181,16 +174,11 @@ required_entry sign draft line = unless_zero line (required sign draft line)
 abbrev pub Stage : Type 0
 Stage = Draft → List Line → Result Draft (Fault ReadKind)
 
--- nothing but blank lines
-abbrev pub ended_text : Stage
-ended_text draft [] = Ok draft
-ended_text draft (line ∷ lines) = fault line.number kinds.TrailingText
-
 -- how many models were asked for, which is not used
 abbrev pub number_of_models : Draft → List ℕ → Result Draft ReadKind
 number_of_models draft line = do
-  n ← number line
-  unless (int_lt n.0 (pos 0)) kinds.BadNumber (ended draft n.1)
+  n ← not_negative line
+  ended draft n.1
 
 -- the number of models may be left out
 abbrev pub models : Stage

@@ -1,21 +1,28 @@
 //! Lines of the symbol table and of the required atoms: each begins with an atom, or it is the 0 that ends its part;
 //! and the lines between the parts.
 
-ghost use Rattle.std.specs.Prelude.{◌≡◌, ◌≢◌, ℕ, pos, List, Result, Ok, Err, IfOk, OnOk, IfErr, IfSome};
+ghost use Rattle.std.specs.Prelude.{◌≡◌, ℕ, List, Result, Ok, Err, IfOk, OnOk, IfErr, IfSome};
 ghost use Rattle.ground_program.specs.Draft.{Draft};
 ghost use Rattle.ground_program.specs.Facts.{IsAtom};
 ghost use Rattle.ground_program.specs.declared.reading.ReadKind.{ReadKind};
 ghost use Rattle.asp_scan.specs.Feeds.{HasNoFeed};
 ghost use Rattle.statement_fields.specs.Fields.{Faults};
-ghost use Rattle.smodels_format.specs.Read.{unless_zero, symbol_name, symbol_entry, required_entry, heading, number_of_models};
-ghost use Rattle.smodels_format.specs.private.Steps.{signed, said, behind_atom, begun, atom_in, symbol_behind, required_behind};
+ghost use Rattle.smodels_format.specs.Read.{unless_zero, symbol_name, heading, number_of_models};
+ghost use Rattle.smodels_format.specs.private.Steps.{said, behind_atom, begun, symbol_behind, required_behind, behind, entry_of};
 
 use crate::sign::Sign;
 use asp_base::{ByteList, Lit};
 use asp_scan::Scan;
 use ground_program::{LitList, ProgramBuilder, ReadKind, Show};
-use statement_fields::{FieldFault, ended, number, word};
+use statement_fields::{FieldFault, atom_from, ended, not_negative, number, word};
 use std::alloc::Global;
+
+/// Which part has the entries: the symbol table, or the atoms that are required to have a sign.
+#[derive(Clone, Copy)]
+pub(crate) enum Entries {
+    Symbols,
+    Required(Sign),
+}
 
 /// What a line of a part was that has entries of atoms.
 #[derive(Clone, Copy)]
@@ -23,8 +30,6 @@ pub(crate) enum EntryLine {
     Entry,
     End,
 }
-
-const GREATEST_ATOM: u64 = 1 << 30;
 
 /// The atom that begins an entry, or None at the 0 that ends its part, which is alone in its line.
 fn entry_atom(scan: &mut Scan<'_>) -> Result<Option<u32>, ReadKind>
@@ -41,46 +46,51 @@ fn entry_atom(scan: &mut Scan<'_>) -> Result<Option<u32>, ReadKind>
         ended(scan)?;
         return Ok(None);
     }
-    Ok(Some(atom_of(n)?))
+    Ok(Some(atom_from(n)?))
 }
 
-/// The atom that a number is. Refused with the faults of `statement_fields::atom`.
-fn atom_of(n: i64) -> Result<u32, ReadKind>
-    requires { n ≢ pos 0 }
-    ensures ok { IfOk result (λ a. (line : List ℕ) → atom_in n line ≡ Ok (a, line)) }
-    ensures err { IfErr result (λ kind. (line : List ℕ) → atom_in n line ≡ Err kind) }
-    ensures fits { IfOk result (λ a. IsAtom a) }
-{
-    if n < 0 {
-        return Err(ReadKind::BadNumber);
-    }
-    if n as u64 > GREATEST_ATOM {
-        return Err(ReadKind::AtomTooLarge);
-    }
-    Ok(n as u32)
-}
-
-/// A line of the symbol table: an atom and its name, which is shown where the atom is true, or the 0 that ends it.
-pub(crate) fn symbol_line(
+/// A line of a part: an atom and what stands behind it, or the 0 that ends the part.
+pub(crate) fn entry_line(
     alloc: Global,
     scan: &mut Scan<'_>,
     builder: &mut ProgramBuilder,
+    entries: Entries,
 ) -> Result<EntryLine, FieldFault>
     requires { HasNoFeed scan.old.left }
-    ensures ok { IfOk result (λ line. symbol_entry builder.old scan.old.left ≡ Ok (said line builder.new)) }
-    ensures err { IfErr result (λ fault. Faults (symbol_entry builder.old scan.old.left) fault) }
+    ensures ok { IfOk result (λ line. entry_of entries builder.old scan.old.left ≡ Ok (said line builder.new)) }
+    ensures err { IfErr result (λ fault. Faults (entry_of entries builder.old scan.old.left) fault) }
     ensures end { IfOk result (λ line. line ≡ EntryLine.End → builder.new ≡ builder.old) }
     ensures rest { scan.new ≡ record scan.old { left = scan.new.left } }
 {
     match entry_atom(scan)? {
         None => Ok(EntryLine::End),
         Some(atom) => {
-            symbol(alloc, scan, builder, atom)?;
+            entry(alloc, scan, builder, entries, atom)?;
             Ok(EntryLine::Entry)
         }
     }
 }
 
+fn entry(
+    alloc: Global,
+    scan: &mut Scan<'_>,
+    builder: &mut ProgramBuilder,
+    entries: Entries,
+    atom: u32,
+) -> Result<(), FieldFault>
+    requires atom { IsAtom atom }
+    requires no_feed { HasNoFeed scan.old.left }
+    ensures ok { OnOk result (behind entries builder.old (atom, scan.old.left) ≡ Ok builder.new) }
+    ensures err { IfErr result (λ fault. Faults (behind entries builder.old (atom, scan.old.left)) fault) }
+    ensures rest { scan.new ≡ record scan.old { left = scan.new.left } }
+{
+    match entries {
+        Entries::Symbols => symbol(alloc, scan, builder, atom),
+        Entries::Required(sign) => required(scan, builder, sign, atom),
+    }
+}
+
+/// A symbol: the atom's name, which is shown where the atom is true.
 fn symbol(
     alloc: Global,
     scan: &mut Scan<'_>,
@@ -120,27 +130,7 @@ fn symbol_name(alloc: Global, scan: &mut Scan<'_>) -> Result<ByteList, FieldFaul
     Ok(copy)
 }
 
-/// A line of the atoms that are required to be true, or to be false: an atom alone, or the 0 that ends them.
-pub(crate) fn required_line(
-    scan: &mut Scan<'_>,
-    builder: &mut ProgramBuilder,
-    sign: Sign,
-) -> Result<EntryLine, FieldFault>
-    ensures ok { IfOk result (λ line. required_entry (signed sign) builder.old scan.old.left
-        ≡ Ok (said line builder.new)) }
-    ensures err { IfErr result (λ fault. Faults (required_entry (signed sign) builder.old scan.old.left) fault) }
-    ensures end { IfOk result (λ line. line ≡ EntryLine.End → builder.new ≡ builder.old) }
-    ensures rest { scan.new ≡ record scan.old { left = scan.new.left } }
-{
-    match entry_atom(scan)? {
-        None => Ok(EntryLine::End),
-        Some(atom) => {
-            required(scan, builder, sign, atom)?;
-            Ok(EntryLine::Entry)
-        }
-    }
-}
-
+/// A required atom, which is alone in its line.
 fn required(
     scan: &Scan<'_>,
     builder: &mut ProgramBuilder,
@@ -176,9 +166,6 @@ pub(crate) fn number_of_models(scan: &mut Scan<'_>) -> Result<(), ReadKind>
     ensures err { IfErr result (λ kind. (draft : Draft) → number_of_models draft scan.old.left ≡ Err kind) }
     ensures rest { scan.new ≡ record scan.old { left = scan.new.left } }
 {
-    let n = number(scan)?;
-    if n < 0 {
-        return Err(ReadKind::BadNumber);
-    }
+    not_negative(scan)?;
     ended(scan)
 }

@@ -7,15 +7,15 @@ ghost use Rattle.ground_program.specs.Draft.{Draft};
 ghost use Rattle.asp_base.specs.Faults.{Refuses};
 ghost use Rattle.asp_base.specs.declared.faults.Refusal.TheVariants as refusals;
 ghost use Rattle.asp_scan.specs.Feeds.{HaveNoFeed};
-ghost use Rattle.smodels_format.specs.Read.{smodels_of, Stage, part, rule_entry, symbol_entry, required_entry, headed, models, ended_text, rule_part};
-ghost use Rattle.smodels_format.specs.private.Steps.{signed};
+ghost use Rattle.smodels_format.specs.Read.{smodels_of, Stage, part, rule_entry, required_entry, headed, models, rule_part};
+ghost use Rattle.smodels_format.specs.private.Steps.{signed, entry_of};
 
-use crate::entry::{EntryLine, heading, number_of_models, required_line, symbol_line};
+use crate::entry::{Entries, EntryLine, entry_line, heading, number_of_models};
 use crate::rule::{RuleLine, rule_line};
 use crate::sign::Sign;
 use asp_scan::Scan;
 use ground_program::{Program, ProgramBuilder, ReadKind, ReadRefusal};
-use statement_fields::FieldFault;
+use statement_fields::{FieldFault, ended_text};
 use std::alloc::Global;
 
 /// The program of an smodels text: rules, a symbol table, and the atoms that are required to be true and to be false.
@@ -49,9 +49,9 @@ fn parts(
     ensures err { IfErr result (λ refusal. Refuses (rule_part scan.old.last builder.old scan.old.ahead) refusal) }
 {
     rules(alloc, scan, builder)?;
-    symbols(alloc, scan, builder)?;
-    required(scan, builder, b"B+", Sign::Positive)?;
-    required(scan, builder, b"B-", Sign::Negative)?;
+    entries(alloc, scan, builder, Entries::Symbols)?;
+    required(alloc, scan, builder, b"B+", Sign::Positive)?;
+    required(alloc, scan, builder, b"B-", Sign::Negative)?;
     models(scan)
 }
 
@@ -83,21 +83,23 @@ fn rules(
     Err(no_end(scan))
 }
 
-/// The symbol table, up to the 0 that ends it.
-fn symbols(
+/// The entries of a part, up to the 0 that ends it.
+fn entries(
     alloc: Global,
     scan: &mut Scan<'_>,
     builder: &mut ProgramBuilder,
+    entries: Entries,
 ) -> Result<(), ReadRefusal>
     requires { HaveNoFeed scan.old.ahead }
-    ensures ok { OnOk result ((next : Stage) → part symbol_entry next scan.old.last builder.old scan.old.ahead
+    ensures ok { OnOk result ((next : Stage) → part (entry_of entries) next scan.old.last builder.old scan.old.ahead
         ≡ next builder.new scan.new.ahead) }
     ensures err { IfErr result (λ refusal. (next : Stage)
-        → Refuses (part symbol_entry next scan.old.last builder.old scan.old.ahead) refusal) }
+        → Refuses (part (entry_of entries) next scan.old.last builder.old scan.old.ahead) refusal) }
     ensures last { scan.new.last ≡ scan.old.last }
+    ensures no_feed { HaveNoFeed scan.new.ahead }
 {
     'lines: while scan.next_line() {
-        match symbol_line(alloc, scan, builder) {
+        match entry_line(alloc, scan, builder, entries) {
             Ok(EntryLine::Entry) => {}
             Ok(EntryLine::End) => return Ok(()),
             Err(fault) => return Err(fault.at(scan.line())),
@@ -108,11 +110,13 @@ fn symbols(
 
 /// The atoms that are required to be true, or to be false: a heading, and the atoms up to the 0 that ends them.
 fn required(
+    alloc: Global,
     scan: &mut Scan<'_>,
     builder: &mut ProgramBuilder,
     text: &[u8],
     sign: Sign,
 ) -> Result<(), ReadRefusal>
+    requires { HaveNoFeed scan.old.ahead }
     ensures ok { OnOk result ((next : Stage)
         → headed text.now (part (required_entry (signed sign)) next scan.old.last)
         scan.old.last builder.old scan.old.ahead
@@ -121,9 +125,10 @@ fn required(
         → Refuses (headed text.now (part (required_entry (signed sign)) next scan.old.last)
         scan.old.last builder.old scan.old.ahead) refusal) }
     ensures last { scan.new.last ≡ scan.old.last }
+    ensures no_feed { HaveNoFeed scan.new.ahead }
 {
     heading_line(scan, text)?;
-    required_atoms(scan, builder, sign)
+    entries(alloc, scan, builder, Entries::Required(sign))
 }
 
 /// The heading of a part.
@@ -133,6 +138,7 @@ fn heading_line(scan: &mut Scan<'_>, text: &[u8]) -> Result<(), ReadRefusal>
     ensures err { IfErr result (λ refusal. (next : Stage) (draft : Draft)
         → Refuses (headed text.now next scan.old.last draft scan.old.ahead) refusal) }
     ensures last { scan.new.last ≡ scan.old.last }
+    ensures no_feed { HaveNoFeed scan.old.ahead → HaveNoFeed scan.new.ahead }
 {
     if !scan.next_line() {
         return Err(no_end(scan));
@@ -141,28 +147,6 @@ fn heading_line(scan: &mut Scan<'_>, text: &[u8]) -> Result<(), ReadRefusal>
         Ok(()) => Ok(()),
         Err(kind) => Err(FieldFault::Kind(kind).at(scan.line())),
     }
-}
-
-fn required_atoms(
-    scan: &mut Scan<'_>,
-    builder: &mut ProgramBuilder,
-    sign: Sign,
-) -> Result<(), ReadRefusal>
-    ensures ok { OnOk result ((next : Stage)
-        → part (required_entry (signed sign)) next scan.old.last builder.old scan.old.ahead
-        ≡ next builder.new scan.new.ahead) }
-    ensures err { IfErr result (λ refusal. (next : Stage)
-        → Refuses (part (required_entry (signed sign)) next scan.old.last builder.old scan.old.ahead) refusal) }
-    ensures last { scan.new.last ≡ scan.old.last }
-{
-    'lines: while scan.next_line() {
-        match required_line(scan, builder, sign) {
-            Ok(EntryLine::Entry) => {}
-            Ok(EntryLine::End) => return Ok(()),
-            Err(fault) => return Err(fault.at(scan.line())),
-        }
-    }
-    Err(no_end(scan))
 }
 
 /// The number of models, which may be left out, and the end of the text.
@@ -177,17 +161,6 @@ fn models(scan: &mut Scan<'_>) -> Result<(), ReadRefusal>
         Ok(()) => ended_text(scan),
         Err(kind) => Err(FieldFault::Kind(kind).at(scan.line())),
     }
-}
-
-/// Nothing but blank lines.
-fn ended_text(scan: &mut Scan<'_>) -> Result<(), ReadRefusal>
-    ensures ok { OnOk result ((draft : Draft) → ended_text draft scan.old.ahead ≡ Ok draft) }
-    ensures err { IfErr result (λ refusal. (draft : Draft) → Refuses (ended_text draft scan.old.ahead) refusal) }
-{
-    if scan.next_line() {
-        return Err(FieldFault::Kind(ReadKind::TrailingText).at(scan.line()));
-    }
-    Ok(())
 }
 
 /// A text that ends before its last part does.

@@ -4,13 +4,13 @@ ghost use Rattle.std.specs.Prelude.{◌≡◌, ◌≤◌, ◌<◌, ◌+◌, ◌^
 ghost use Rattle.ground_program.specs.Draft.{with_rule};
 ghost use Rattle.ground_program.specs.Facts.{IsAtom, HeadFits, BodyFits};
 ghost use Rattle.statement_fields.specs.Fields.{ended, Faults};
-ghost use Rattle.smodels_format.specs.Read.{basic_rule, constraint_rule, choice_rule, weight_rule, minimize, head_of, disjunctive_rule, by_type, rule_entry};
+ghost use Rattle.smodels_format.specs.Read.{basic_rule, constraint_rule, choice_rule, weight_rule, minimize, disjunctive_rule, by_type, rule_entry};
 ghost use Rattle.smodels_format.specs.private.Steps.{rule_said, levels_added};
 
 use crate::body::{count_body, items, plain_body, weight_body};
 use asp_scan::Scan;
 use ground_program::{Body, Head, Level, ProgramBuilder, ReadKind};
-use statement_fields::{FieldFault, atom, choice, count, ended, many_atoms, number};
+use statement_fields::{FieldFault, atom, choice, count, ended, many_atoms, number, plain_head};
 use std::alloc::Global;
 
 /// What a line of the rules was.
@@ -151,23 +151,9 @@ fn disjunctive_rule(
     ensures rest { scan.new ≡ record scan.old { left = scan.new.left } }
 {
     let n = count(scan)?;
-    let head = head_of(scan, n)?;
+    let head = plain_head(scan, n)?;
     let body = plain_body(alloc, scan)?;
     add_rule(scan, builder, head, body)
-}
-
-/// Two atoms and more are refused at their number.
-fn head_of(scan: &mut Scan<'_>, n: u32) -> Result<Head, ReadKind>
-    ensures ok { IfOk result (λ head. head_of n scan.old.left ≡ Ok (head, scan.new.left)) }
-    ensures err { IfErr result (λ kind. head_of n scan.old.left ≡ Err kind) }
-    ensures fits { IfOk result (λ head. HeadFits IsAtom head) }
-    ensures rest { scan.new ≡ record scan.old { left = scan.new.left } }
-{
-    match n {
-        0 => Ok(Head::Nothing),
-        1 => Ok(Head::One(atom(scan)?)),
-        _ => Err(ReadKind::Disjunction),
-    }
 }
 
 /// The end of a rule's line, and the rule.

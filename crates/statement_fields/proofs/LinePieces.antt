@@ -1,5 +1,5 @@
 -- Lines, as they are put together.
-use Rattle.std.proofs.Common.{◌≡◌, ◌∙◌, sym, ap, ℕ, List, [], ◌∷◌, ◌++◌, append_assoc, Result, Ok, Err, OnOk}
+use Rattle.std.proofs.Common.{◌≡◌, ◌∙◌, sym, ap, ap₂, ℕ, List, [], ◌∷◌, ◌++◌, append_assoc, Result, Ok, Err, OnOk}
 use Rattle.asp_scan.specs.Words.{line_of}
 use Rattle.statement_fields.specs.FieldWords.{spaced_before}
 use Rattle.statement_fields.proofs.Spacing.{spaced-before, spaced_before-append}
@@ -28,6 +28,10 @@ pub four_appends-ok : {T E : Type 0} (r : Result T E) (old o1 o2 o3 o4 a b c d a
     → o1 ≡ old ++ a → o2 ≡ o1 ++ b → o3 ≡ o2 ++ c → all ≡ a ++ (b ++ (c ++ d)) → OnOk r (o4 ≡ o3 ++ d) → OnOk r (o4 ≡ old ++ all)
 four_appends-ok (Ok x) old o1 o2 o3 o4 a b c d all p q r e s = four_appends old o1 o2 o3 o4 a b c d p q r s ∙ ap (λ bytes. old ++ bytes) (sym e)
 four_appends-ok (Err x) old o1 o2 o3 o4 a b c d all p q r e s = s
+
+-- what was appended was made of two parts, which are these
+pub made_of_two : {A B : Type 0} (made : A → B → List ℕ) (old now all : List ℕ) (a x : A) (b y : B) → now ≡ old ++ made a b → a ≡ x → b ≡ y → made x y ≡ all → now ≡ old ++ all
+made_of_two made old now all a x b y is a_is b_is e = is ∙ ap (λ bytes. old ++ bytes) (ap₂ made a_is b_is ∙ e)
 
 -- ---- lines of what was appended
 

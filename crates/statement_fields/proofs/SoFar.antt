@@ -1,11 +1,13 @@
 -- The entries that were read so far, in front of those that are still to be read.
-use Rattle.std.proofs.Common.{◌≡◌, ℕ, suc, ◌+◌, ◌-◌, ◌<◌, List, [], ◌∷◌, ◌++◌, length, Ok, Err, refl, sym, ap, ◌∙◌, subst, arith, append_assoc, length-append}
+use Rattle.std.proofs.Common.{◌≡◌, ℕ, suc, ◌+◌, ◌-◌, ◌<◌, List, [], ◌∷◌, ◌++◌, length, Result, Ok, Err, IfErr, IsErrAnd, refl, sym, ap, ◌∙◌, subst, arith, append_assoc, length-append}
 use Rattle.std.specs.List.{AllByRecursion}
 use Rattle.asp_base.specs.Faults.{◌>>=◌}
 use Rattle.asp_base.proofs.Each.{each-push}
 use Rattle.asp_scan.specs.Scanning.{Scanning}
 use Rattle.ground_program.specs.declared.reading.ReadKind.{ReadKind}
-use Rattle.statement_fields.specs.Fields.{Reading, many}
+use Rattle.asp_base.specs.declared.faults.LineFault.{LineFault}
+use Rattle.asp_base.specs.declared.faults.LineFault.TheVariants as faults
+use Rattle.statement_fields.specs.Fields.{Reading, many, Faults}
 use Rattle.statement_fields.specs.private.Onto.{onto}
 
 -- what a loop keeps that reads n entries and puts them behind others, where this is read of the whole
@@ -69,3 +71,10 @@ Pushing-fails {field = field} {n = n} {i = i} {now = now} {front = front} kind h
     sym h.same
     ∙ ap (λ m. onto front (many field m now.left)) (one_more n i more)
     ∙ first_of field (n - (i + 1)) now.left front (Err kind) is
+
+-- as the fault that the loop gives back
+pub Pushing-faults : {A B : Type 0} {field : List ℕ → Reading A} {Fits : A → Type 0} {whole : Reading (List A)} {n i : ℕ} {start now : Scanning} {before front : List A} {kind : ReadKind}
+    (r : Result B (LineFault ReadKind)) → Pushing field Fits whole n i start now before front → i < n → field now.left ≡ Err kind → IsErrAnd r (λ fault. fault ≡ faults.Kind kind)
+    → IfErr r (λ fault. Faults whole fault)
+Pushing-faults (Ok x) h more is gives = tt
+Pushing-faults {whole = whole} {kind = kind} (Err fault) h more is gives = subst (λ f. Faults whole f) (sym gives) (Pushing-fails kind h more is)

@@ -55,12 +55,17 @@ name_length line = do
   n ← number line
   unless (int_lt n.0 (pos 0)) kinds.NegativeCount (Ok (natural n.0, n.1))
 
+-- the atom that a number is, in front of this line
+abbrev pub atom_from : ℤ → List ℕ → Reading ℕ
+atom_from n line =
+    unless (int_eq n (pos 0)) kinds.ZeroAtom
+    (unless (int_lt n (pos 0)) kinds.BadNumber
+    (unless (above (2 ^ 30) n) kinds.AtomTooLarge (Ok (natural n, line))))
+
 abbrev pub atom : List ℕ → Reading ℕ
 atom line = do
   n ← number line
-  unless (int_eq n.0 (pos 0)) kinds.ZeroAtom
-      (unless (int_lt n.0 (pos 0)) kinds.BadNumber
-      (unless (above (2 ^ 30) n.0) kinds.AtomTooLarge (Ok (natural n.0, n.1))))
+  atom_from n.0 n.1
 
 abbrev pub literal : List ℕ → Reading Literal
 literal line = do

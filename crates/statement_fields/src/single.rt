@@ -1,10 +1,10 @@
 //! Fields of one number or word, each read from what is left of the present line and checked against its limits.
 
-ghost use Rattle.std.specs.Prelude.{◌≡◌, ◌≤◌, ◌^◌, pos, ◌≤ℤ◌, Ok, Err, None, IfOk, OnOk, IfErr, IsSome};
+ghost use Rattle.std.specs.Prelude.{◌≡◌, ◌≤◌, ◌^◌, ℕ, List, pos, ◌≤ℤ◌, Ok, Err, None, IfOk, OnOk, IfErr, IsSome};
 ghost use Rattle.asp_base.specs.Literal.{atom_of};
 ghost use Rattle.ground_program.specs.Facts.{IsAtom, FitsWeight, FitsBodyWeight};
 ghost use Rattle.asp_scan.specs.Feeds.{HasNoFeed};
-ghost use Rattle.statement_fields.specs.Fields.{number, count, name_length, atom, literal, body_weight, weight, small, not_negative, choice, word, kind_of};
+ghost use Rattle.statement_fields.specs.Fields.{number, count, name_length, atom, atom_from, literal, body_weight, weight, small, not_negative, choice, word, kind_of};
 ghost use Rattle.asp_scan.specs.Tokens.{token_at};
 
 use asp_base::Lit;
@@ -80,6 +80,15 @@ pub fn atom(scan: &mut Scan<'_>) -> Result<u32, ReadKind>
     ensures rest { scan.new ≡ record scan.old { left = scan.new.left } }
 {
     let n = number(scan)?;
+    atom_from(n)
+}
+
+/// The atom that a number is, from 1 to 2^30. Refused with the faults of `atom`.
+pub fn atom_from(n: i64) -> Result<u32, ReadKind>
+    ensures ok { IfOk result (λ a. (line : List ℕ) → atom_from n line ≡ Ok (a, line)) }
+    ensures err { IfErr result (λ kind. (line : List ℕ) → atom_from n line ≡ Err kind) }
+    ensures fits { IfOk result (λ a. IsAtom a) }
+{
     if n == 0 {
         return Err(ReadKind::ZeroAtom);
     }

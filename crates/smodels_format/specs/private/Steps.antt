@@ -1,16 +1,17 @@
 -- What the steps of the reader say of the definition.
-use Rattle.std.specs.Prelude.{ℕ, ◌^◌, ℤ, pos, int_lt, List, [], ◌∷◌, Option, Some, None, Result, Ok}
+use Rattle.std.specs.Prelude.{ℕ, ℤ, List, [], ◌∷◌, Option, Some, None, Result, Ok}
 use Rattle.asp_base.specs.Literal.{Literal, Pos, Neg}
 use Rattle.ground_program.specs.Draft.{Draft, with_required, with_show}
 use Rattle.ground_program.specs.declared.reading.ReadKind.{ReadKind}
-use Rattle.ground_program.specs.declared.reading.ReadKind.TheVariants as kinds
 use Rattle.asp_base.specs.Faults.{◌>>=◌}
-use Rattle.statement_fields.specs.Fields.{Reading, unless, above, natural, atom, body_weight, ended}
-use Rattle.smodels_format.specs.Read.{Entry, Adds, Ends, adds, symbol_name}
+use Rattle.statement_fields.specs.Fields.{Reading, atom, body_weight, ended}
+use Rattle.smodels_format.specs.Read.{Entry, Adds, Ends, adds, unless_zero, symbol_name}
 use Rattle.smodels_format.specs.declared.sign.Sign.{Sign}
 use Rattle.smodels_format.specs.declared.sign.Sign.TheVariants.{Negative, Positive}
 use Rattle.smodels_format.specs.declared.rule.RuleLine.{RuleLine}
 use Rattle.smodels_format.specs.declared.rule.RuleLine.TheVariants.{Rule, Minimize, End}
+use Rattle.smodels_format.specs.declared.entry.Entries.{Entries}
+use Rattle.smodels_format.specs.declared.entry.Entries.TheVariants.{Symbols, Required}
 use Rattle.smodels_format.specs.declared.entry.EntryLine.{EntryLine}
 use Rattle.smodels_format.specs.declared.entry.EntryLine.TheVariants as lines
 
@@ -63,13 +64,7 @@ abbrev pub begun : Option ℕ → List ℕ → (ℕ × List ℕ → Result Draft
 begun None line entry = Ok Ends
 begun (Some a) line entry = adds (entry (a, line))
 
--- the atom that a number is which is not 0, in front of this line
-abbrev pub atom_in : ℤ → List ℕ → Reading ℕ
-atom_in n line =
-    unless (int_lt n (pos 0)) kinds.BadNumber
-    (unless (above (2 ^ 30) n) kinds.AtomTooLarge (Ok (natural n, line)))
-
--- behind its atom
+-- what stands behind the atom of an entry
 abbrev pub symbol_behind : Draft → ℕ × List ℕ → Result Draft ReadKind
 symbol_behind draft a = do
   name ← symbol_name a.1
@@ -77,3 +72,11 @@ symbol_behind draft a = do
 
 abbrev pub required_behind : Sign → Draft → ℕ × List ℕ → Result Draft ReadKind
 required_behind sign draft a = ended (with_required (signed sign a.0 ∷ []) draft) a.1
+
+abbrev pub behind : Entries → Draft → ℕ × List ℕ → Result Draft ReadKind
+behind Symbols = symbol_behind
+behind (Required sign) = required_behind sign
+
+-- a line of a part whose entries begin with an atom
+abbrev pub entry_of : Entries → Draft → List ℕ → Result Entry ReadKind
+entry_of entries draft line = unless_zero line (behind_atom (behind entries draft) line)

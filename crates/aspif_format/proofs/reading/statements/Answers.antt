@@ -1,6 +1,6 @@
 use Rattle.std.proofs.Common.{◌∙◌, Ok, sym, ap, subst}
 use Rattle.asp_base.specs.Faults.{Refuses}
-use Rattle.aspif_format.specs.Read.{ended_text}
+use Rattle.statement_fields.specs.Parts.{ended_text}
 use Rattle.aspif_format.specs.private.Steps.{statement_of}
 use Rattle.asp_scan.proofs.Appends.{on_ok-weaker, if_err-weaker}
 use Rattle.aspif_format.proofs.StatementLines.{statements-end}

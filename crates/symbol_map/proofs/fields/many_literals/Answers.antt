@@ -1,12 +1,8 @@
-use Rattle.std.proofs.Common.{arith}
-use Rattle.std.proofs.lemmas.Grind.{common_steps}
-use Rattle.statement_fields.proofs.SoFar.{Pushing-next, Pushing-fails}
+use Rattle.statement_fields.proofs.SoFar.{Pushing-next, Pushing-faults}
 use Rattle.symbol_map.proofs.fields.many_literals.Goals as goal
 
 pub returns-in_err-literal-clause-err : goal.returns-in_err-literal-clause-err
-returns-in_err-literal-clause-err c =
-    let e = Pushing-fails _ c.loop-i.invariant c.loop-i-test.true c.in_err-literal.ensures.err in
-    grind (arith, common_steps)
+returns-in_err-literal-clause-err c = Pushing-faults c.from_residual.result c.loop-i.invariant c.loop-i-test.true c.in_err-literal.ensures.err c.from_residual.ensures.1
 
 pub loop-i-preserved : goal.loop-i-preserved
 loop-i-preserved c =
