@@ -12,6 +12,7 @@ use Rattle.asp_base.specs.Walks.{Acyclic}
 use Rattle.ground_program.specs.Ground.{Ground}
 use Rattle.rising_numbers.specs.Rising.{place}
 use Rattle.ground_program.specs.Facts.{IsProgram, Among, BodyFits, RuleFits}
+use Rattle.ground_program.specs.Normal.{IsNormalHead, IsNormalBody, AreNormal}
 use Rattle.ground_program.specs.Stable.{holds, head_has, step, is_headless, Supported}
 use Rattle.ground_program.proofs.FactLaws.{step-among}
 use Rattle.ground_program.proofs.Plain.{at_member}
@@ -29,8 +30,7 @@ use Rattle.clause_store.specs.Stored.{Stored, inputs_only, conjunction, after_co
 use Rattle.clause_store.proofs.GateLaws.{agree, agree-same, same-agree, clauses_true-flat_map, clause_true-negations, clauses_true-front, clauses_true-back, clauses_true-both, literals-up, IsOver-up, IsSound, Extends-same, Extends-compose, Conjunction, conjunction-is}
 use Rattle.completion.specs.Completion.{atoms_at, literals_of, inputs_of, body_literal, after_body, after_head, head_literal, after_rules, literals_of_rules, Support, with_support, supports_of, is_empty, is_sure, literal_if, bodies_of, each_once, defined_by, atom_clauses, headless_clause, headless_clauses, required_clauses, atoms_only, with_bodies, body_literals, support_clauses, completed, completion}
 use Rattle.ground_program.specs.Occurrences.{over_variables}
-use Rattle.completion.specs.Normal.{IsNormalHead, IsNormalBody, AreNormal, HasSupported}
-use Rattle.completion.specs.Supported.{DeterminedByAtoms, ExtendsOnce, HasBodyLiterals, SaysSupported}
+use Rattle.completion.specs.Supported.{HasSupported, DeterminedByAtoms, ExtendsOnce, HasBodyLiterals, SaysSupported}
 use Rattle.completion.proofs.Places.{place-onto, inputs_from, inputs_from-over, inputs_from-place, all-over, is_true-over, all_true-over}
 
 -- ---- the conjunctions of all rules

@@ -1,6 +1,7 @@
 pub mod AtomsLaws
 pub mod BrokenLaws
 pub mod Compose
+pub mod DigitLaws
 pub mod ExternalLaws
 pub mod FactLaws
 pub mod FallingOrder
@@ -12,4 +13,6 @@ pub mod LevelLaws
 pub mod Negative
 pub mod Passing
 pub mod Plain
+pub mod RadixLaws
+pub mod RoomLaws
 mod Rows

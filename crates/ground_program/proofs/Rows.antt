@@ -1,10 +1,14 @@
 -- Small programs with their founded sets, costs and names, by computation.
 use Rattle.std.proofs.Common.{◌≡◌, refl, sym, ℕ, ℤ, pos, negsuc, List, [], ◌∷◌, arith}
+use Rattle.std.specs.Prelude.{Some, None}
 use Rattle.std.proofs.lemmas.Bool.{true≢false}
 use Rattle.asp_base.specs.Literal.{Literal, Pos, Neg}
 use Rattle.asp_base.specs.Sets.{Set, members}
 use Rattle.ground_program.specs.Facts.{IsProgram}
+use Rattle.ground_program.specs.Digits.{digits}
 use Rattle.ground_program.specs.Ground.{Ground}
+use Rattle.ground_program.specs.Radix.{tare_of, radix}
+use Rattle.ground_program.specs.Room.{room}
 use Rattle.ground_program.specs.Stable.{cost, visible, Founded, Stable}
 use Rattle.ground_program.specs.declared.program.Head.TheVariants.{Nothing, One, Choice}
 use Rattle.ground_program.specs.declared.program.Body.TheVariants.{All, Sum}
@@ -120,3 +124,39 @@ with_edges = record (of_rules (1 ∷ []) (choice (1 ∷ []) ∷ [])) {
 
 edges_close : Stable with_edges (members (1 ∷ [])) → ⊥
 edges_close s = s.acyclic (pos 1) (pos 2 ∷ []) (refl, refl)
+
+-- ---- rooms and radices
+
+-- {1; 2; 3}. 4 :- 16 <= #sum { 6 : 1; 10 : 2; 15 : 3 }.
+abbrev weights : List (Literal × ℤ)
+weights = (Pos 1, pos 6) ∷ (Pos 2, pos 10) ∷ (Pos 3, pos 15) ∷ []
+
+abbrev weighed : Ground
+weighed =
+    of_rules (1 ∷ 2 ∷ 3 ∷ 4 ∷ [])
+    (choice (1 ∷ 2 ∷ 3 ∷ []) ∷ record { head = One 4; body = Sum (pos 16) weights } ∷ [])
+
+weighed_radix : radix weights (pos 16) (pos 1) ≡ Some (pos 5)
+weighed_radix = refl
+
+weighed_tare : tare_of 16 5 ≡ 4
+weighed_tare = refl
+
+weighed_top : radix weights (pos 16) (pos 5) ≡ None
+weighed_top = refl
+
+weighed_room : room weighed ≡ 602
+unfolding digits
+weighed_room = refl
+
+-- {1; 2; 3}. 4 :- 2 <= #count { 1; 2; 3 }, as a weight rule
+abbrev counted : Ground
+counted =
+    of_rules (1 ∷ 2 ∷ 3 ∷ 4 ∷ [])
+    (choice (1 ∷ 2 ∷ 3 ∷ [])
+    ∷ record { head = One 4; body = Sum (pos 2) ((Pos 1, pos 1) ∷ (Pos 2, pos 1) ∷ (Pos 3, pos 1) ∷ []) }
+    ∷ [])
+
+counted_room : room counted ≡ 50
+unfolding digits
+counted_room = refl

@@ -7,3 +7,4 @@ pub mod Inside
 pub mod InsideDraft
 pub mod InsideFresh
 pub mod AreAtoms
+pub mod Levels

@@ -1,8 +1,8 @@
 //! Laws of stable models, each the contract of a function that does nothing.
 
-ghost use Rattle.std.specs.Prelude.{◌≡◌, ◌↔◌, ℕ, ◌+◌, ◌<◌, ◌≤◌, true, false, List, [], ◌++◌, length};
+ghost use Rattle.std.specs.Prelude.{◌≡◌, ◌↔◌, ℕ, ◌+◌, ◌*◌, ◌/◌, ◌<◌, ◌≤◌, true, false, List, [], ◌++◌, length};
 ghost use Rattle.std.specs.List.{list_any};
-ghost use Rattle.asp_base.specs.Literal.{all_hold};
+ghost use Rattle.asp_base.specs.Literal.{Literal, all_hold};
 ghost use Rattle.asp_base.specs.Sets.{Set, members, Same, Within};
 ghost use Rattle.asp_base.specs.Walks.{Acyclic};
 ghost use Rattle.ground_program.specs.Broken.{breaks};
@@ -12,6 +12,7 @@ ghost use Rattle.ground_program.specs.Faithful.{Covers, Faithful};
 ghost use Rattle.ground_program.specs.Fresh.{IsLeastFree, given_by, new_atom};
 ghost use Rattle.ground_program.specs.Ground.{Ground};
 ghost use Rattle.ground_program.specs.Negative.{HasNegativeBodies};
+ghost use Rattle.ground_program.specs.Radix.{rest_sum, best_radix, tare_of};
 ghost use Rattle.ground_program.specs.Stable.{joined, least, step, Stable, Supported};
 
 /// The least model of the reduct by a set is the intersection of the sets that are closed under the
@@ -64,4 +65,16 @@ pub fn new_atoms_are_new()
     ensures rise { (atoms : List ℕ) (i j : ℕ) → i < j → new_atom atoms i < new_atom atoms j }
     ensures new { (atoms : List ℕ) (n : ℕ) → members atoms (new_atom atoms n) ≡ false }
     ensures most { (atoms : List ℕ) (n : ℕ) → new_atom atoms n ≤ length atoms + n + 1 }
+{}
+
+/// The radix of a level is the number from 2 to 8 with which the weights leave least over together, on a tie the
+/// largest; the tare is the least number that makes it divide the bound.
+pub fn radix_leaves_least_over()
+    ensures range { (items : List (Literal × ℕ)) → (2 ≤ best_radix items) × (best_radix items ≤ 8) }
+    ensures least { (items : List (Literal × ℕ)) (c : ℕ) → 2 ≤ c → c ≤ 8
+        → rest_sum (best_radix items) items ≤ rest_sum c items }
+    ensures largest { (items : List (Literal × ℕ)) (c : ℕ) → best_radix items < c → c ≤ 8
+        → rest_sum (best_radix items) items < rest_sum c items }
+    ensures tare { (bound b : ℕ) → 0 < b → (tare_of bound b < b)
+        × (b * ((bound + tare_of bound b) / b) ≡ bound + tare_of bound b) }
 {}

@@ -14,11 +14,14 @@ mod measure;
 mod occurring;
 mod program;
 mod reading;
+mod rooms;
+mod weights;
 
 pub use atom_set::AtomSet;
 pub use atoms::{Atoms, variable};
 pub use builder::{External, ProgramBuilder};
 pub use fresh::FreshAtoms;
+pub use gather::push_rules;
 pub use lists::{AtomList, CostList, ItemList, LitList};
 pub use measure::size;
 pub use occurring::occurring_atoms;
@@ -26,3 +29,5 @@ pub use program::{
     Body, Edge, EdgeList, Head, Level, LevelList, Program, Rule, RuleList, Show, ShowList,
 };
 pub use reading::{ReadKind, ReadRefusal};
+pub use rooms::{digits, room, term};
+pub use weights::radix;

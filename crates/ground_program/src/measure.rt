@@ -24,7 +24,7 @@ pub fn size(program: &Program) -> u64
 }
 
 /// The sum, saturating at 2^63.
-fn joined(left: u64, right: u64) -> u64
+pub(crate) fn joined(left: u64, right: u64) -> u64
     ensures { result ≡ min (left + right) (2 ^ 63) }
 {
     left.saturating_add(right).min(LIMIT)
@@ -64,7 +64,7 @@ fn choices(head: &Head) -> u64
     }
 }
 
-fn edges_size(edges: &[Edge]) -> u64
+pub(crate) fn edges_size(edges: &[Edge]) -> u64
     ensures { result ≡ min (sum_by (λ edge. 1 + length edge.condition) edges.now) (2 ^ 63) }
 {
     let mut total = 0;
@@ -74,7 +74,7 @@ fn edges_size(edges: &[Edge]) -> u64
     total
 }
 
-fn levels_size(levels: &[Level]) -> u64
+pub(crate) fn levels_size(levels: &[Level]) -> u64
     ensures { result ≡ min (sum_by (λ level. 1 + length level.items) levels.now) (2 ^ 63) }
 {
     let mut total = 0;
@@ -84,7 +84,7 @@ fn levels_size(levels: &[Level]) -> u64
     total
 }
 
-fn shows_size(shows: &[Show]) -> u64
+pub(crate) fn shows_size(shows: &[Show]) -> u64
     ensures { result ≡ min (sum_by (λ show. 1 + length show.condition) shows.now) (2 ^ 63) }
 {
     let mut total = 0;

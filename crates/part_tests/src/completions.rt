@@ -3,9 +3,9 @@
 ghost use Rattle.std.specs.Prelude.{◌≡◌, ◌≤◌, ◌^◌, length, OnOk, IfOk};
 ghost use Rattle.ground_program.specs.Draft.{with_rule};
 ghost use Rattle.ground_program.specs.Facts.{IsAtom, HeadFits, ConditionFits};
+ghost use Rattle.ground_program.specs.Normal.{AreNormal};
 ghost use Rattle.ground_program.specs.Size.{size};
 ghost use Rattle.ground_program.specs.declared.program.Body.TheVariants as bodies;
-ghost use Rattle.completion.specs.Normal.{AreNormal};
 
 use asp_base::{Lit, Memory};
 use clause_store::{ClauseList, Formula, Store};

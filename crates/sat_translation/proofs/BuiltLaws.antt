@@ -5,12 +5,12 @@ use Rattle.std.proofs.lemmas.Bool.{and_parts}
 use Rattle.asp_base.specs.Literal.{Literal, Pos, Neg, is_positive}
 use Rattle.ground_program.specs.Ground.{Ground}
 use Rattle.ground_program.specs.Negative.{IsNegative, IsNegativeBody, HasNegativeBodies}
+use Rattle.ground_program.specs.Normal.{IsNormalHead, IsNormalBody, AreNormal}
 use Rattle.ground_program.specs.declared.program.Head.{Head}
 use Rattle.ground_program.specs.declared.program.Head.TheVariants.{Nothing, One, Choice}
 use Rattle.ground_program.specs.declared.program.Body.{Body}
 use Rattle.ground_program.specs.declared.program.Body.TheVariants.{All, Sum}
 use Rattle.ground_program.specs.declared.program.Rule.{Rule}
-use Rattle.completion.specs.Normal.{IsNormalHead, IsNormalBody, AreNormal}
 use Rattle.sat_translation.specs.Built.{is_plain_head, is_negative_body, is_built_rule, has_none, is_built}
 
 head-normal : (head : Head) → is_plain_head head ≡ true → IsNormalHead head

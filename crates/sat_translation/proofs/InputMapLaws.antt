@@ -9,6 +9,7 @@ use Rattle.ground_program.specs.Ground.{Ground}
 use Rattle.ground_program.specs.Facts.{IsProgram}
 use Rattle.rising_numbers.specs.Rising.{RisesFrom}
 use Rattle.ground_program.specs.Negative.{HasNegativeBodies}
+use Rattle.ground_program.specs.Normal.{AreNormal}
 use Rattle.rising_numbers.specs.Rising.{place}
 use Rattle.ground_program.specs.Stable.{weight_of, costs_of, first_ones, Stable, visible, cost}
 use Rattle.ground_program.specs.declared.program.Level.{Level}
@@ -20,7 +21,6 @@ use Rattle.symbol_map.specs.declared.map.Form.TheVariants.{Cnf, Wcnf}
 use Rattle.symbol_map.specs.Restrict.{atoms_true, restrict}
 use Rattle.symbol_map.specs.FaithfulMap.{FaithfulMap}
 use Rattle.completion.specs.Completion.{atoms_at, completion}
-use Rattle.completion.specs.Normal.{AreNormal}
 use Rattle.completion.specs.Supported.{HasStable}
 use Rattle.completion.proofs.Places.{is_true-over, all_true-over}
 use Rattle.completion.proofs.CompletionLaws.{zero_false}

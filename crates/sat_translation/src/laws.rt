@@ -4,8 +4,8 @@ ghost use Rattle.std.specs.Prelude.{◌≡◌, []};
 ghost use Rattle.ground_program.specs.Facts.{IsProgram};
 ghost use Rattle.ground_program.specs.Ground.{Ground};
 ghost use Rattle.ground_program.specs.Negative.{HasNegativeBodies};
+ghost use Rattle.ground_program.specs.Normal.{AreNormal};
 ghost use Rattle.completion.specs.Completion.{completion};
-ghost use Rattle.completion.specs.Normal.{AreNormal};
 ghost use Rattle.symbol_map.specs.FaithfulMap.{FaithfulMap};
 ghost use Rattle.sat_translation.specs.InputMap.{input_map};
 

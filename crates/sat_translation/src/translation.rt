@@ -4,7 +4,7 @@ ghost use Rattle.std.specs.Prelude.{◌≡◌, ◌≤◌, ◌-◌, ◌^◌, true
 ghost use Rattle.ground_program.specs.Size.{size};
 ghost use Rattle.clause_store.specs.Clauses.{Clauses};
 ghost use Rattle.completion.specs.Completion.{completion};
-ghost use Rattle.completion.specs.Normal.{AreNormal};
+ghost use Rattle.ground_program.specs.Normal.{AreNormal};
 ghost use Rattle.completion.specs.Supported.{IsSmall};
 ghost use Rattle.symbol_map.specs.FaithfulMap.{FaithfulMap};
 ghost use Rattle.symbol_map.specs.declared.map.Form.TheVariants as forms;

@@ -1,0 +1,5 @@
+pub mod GridLaws
+pub mod RowLaws
+pub mod PairLaws
+pub mod GridRows
+mod Rows

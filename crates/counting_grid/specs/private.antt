@@ -1,0 +1,3 @@
+-- Definitions that private functions and the insides of types use; no contract of a public call
+-- names them.
+pub mod Rows

@@ -1,0 +1,43 @@
+-- One more rule, and the pieces of all.
+use Rattle.std.proofs.Common.{◌≡◌, ◌∙◌, ap, subst, get_or, length, ◌<◌, ◌≤◌, arith}
+use Rattle.std.proofs.lemmas.List.{take_all}
+use Rattle.normalize.proofs.TurnedLaws.{Pieced, turned-start, turned-fits, turned-more, turned-pieces}
+use Rattle.normalize.proofs.work.turned.Goals as goal
+
+pub loop-rule-init : goal.loop-rule-init
+loop-rule-init c = turned-start c.args.program.now c.in_ok-work.work c.in_ok-work.ensures
+
+pub rule-requires-clause-fits : goal.rule-requires-clause-fits
+rule-requires-clause-fits c =
+    let n : length c.as_slice-rule-items.result.now ≡ length c.args.program.now.rules =
+    ap length (c.as_slice-rule-items.ensures ∙ ap (λ P. P.rules) c.program.view_is) in
+    let e : c.rule-item.result
+    ≡ get_or c.args.program.now.rules c.loop-rule.rule-index c.rule-item.result =
+    c.rule-item.is ∙ ap (λ rules. get_or rules c.loop-rule.rule-index c.rule-item.result)
+    (c.as_slice-rule-items.ensures ∙ ap (λ P. P.rules) c.program.view_is) in
+    let l : c.loop-rule.rule-index < length c.args.program.now.rules = omega arith in
+    turned-fits c.args.program.now c.loop-rule.rule-index c.loop-rule.work c.rule-item.result
+    c.known.ensures.facts c.loop-rule.invariant l e
+
+pub loop-rule-preserved : goal.loop-rule-preserved
+loop-rule-preserved c =
+    let n : length c.as_slice-rule-items.result.now ≡ length c.args.program.now.rules =
+    ap length (c.as_slice-rule-items.ensures ∙ ap (λ P. P.rules) c.program.view_is) in
+    let e : c.rule-item.result
+    ≡ get_or c.args.program.now.rules c.loop-rule.rule-index c.rule-item.result =
+    c.rule-item.is ∙ ap (λ rules. get_or rules c.loop-rule.rule-index c.rule-item.result)
+    (c.as_slice-rule-items.ensures ∙ ap (λ P. P.rules) c.program.view_is) in
+    let l : c.loop-rule.rule-index < length c.args.program.now.rules = omega arith in
+    turned-more c.args.program.now c.loop-rule.rule-index c.loop-rule.work c.in_ok-work-2.work
+    c.rule-item.result c.known.ensures.facts l e c.loop-rule.invariant
+    c.in_ok-work-2.ensures.turns c.in_ok-work-2.ensures.spends c.in_ok-work-2.ensures.adds
+    c.in_ok-work-2.ensures.same
+
+pub returns-clause-pieces : goal.returns-clause-pieces
+returns-clause-pieces c =
+    let n : length c.as_slice-rule-items.result.now ≡ length c.args.program.now.rules =
+    ap length (c.as_slice-rule-items.ensures ∙ ap (λ P. P.rules) c.program.view_is) in
+    let l : length c.args.program.now.rules ≤ c.loop-rule.rule-index = omega arith in
+    turned-pieces c.args.program.now c.loop-rule.work c.known.ensures.facts
+    (subst (λ rules. Pieced c.args.program.now rules c.loop-rule.work)
+    (take_all c.loop-rule.rule-index c.args.program.now.rules l) c.loop-rule.invariant.pieced)

@@ -1,0 +1,12 @@
+pub mod PartDistinct
+pub mod PartElements
+pub mod PartInside
+pub mod PartLinks
+pub mod PartSums
+pub mod PieceStands
+pub mod PieceSums
+pub mod TangleBasics
+pub mod TangleLaws
+pub mod TangleRooms
+pub mod WalkPieces
+pub mod WalkReaches

@@ -1,0 +1,4 @@
+//! Laws of the programs that are made piece by piece.
+#![tactic(auto)]
+
+pub mod laws;
