@@ -1,4 +1,5 @@
 pub mod NameLaws
+pub mod NormalLaws
 pub mod OutcomeLaws
 pub mod RanLaws
 pub mod SayingLaws

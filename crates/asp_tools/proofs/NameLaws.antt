@@ -1,14 +1,36 @@
 -- Names that all differ.
-use Rattle.std.proofs.Common.{◌≡◌, ◌≢◌, refl, sym, ◌∙◌, ap, ℕ, suc, ◌+◌, ◌<◌, Bool, true, false, ◌&&◌, not, List, [], ◌∷◌, map, take, drop, ◌-◌, get_or, length, arith}
+use Rattle.std.proofs.Common.{◌≡◌, ◌≢◌, refl, sym, ◌∙◌, ap, ℕ, zero, suc, ◌+◌, ◌<◌, ◌≤◌, Bool, true, false, ◌&&◌, not, List, [], ◌∷◌, ◌++◌, map, take, drop, ◌-◌, get_or, length, arith}
 use Rattle.std.specs.Borrow.{Bor}
 use Rattle.std.specs.List.{list_all, AllByRecursion}
 use Rattle.std.specs.Str.{bytes_eq}
-use Rattle.std.proofs.lemmas.List.{length-drop}
+use Rattle.std.proofs.lemmas.List.{length-drop, drop-drop, map-append}
 use Rattle.std.proofs.Math.Seq.{drop-cons, take-length}
 use Rattle.std.proofs.lemmas.Bool.{true≢false}
 use Rattle.asp_base.proofs.NewestFirst.{same_name}
 use Rattle.job_shell.specs.Reads.{AllDiffer, names_of}
 use Rattle.asp_tools.specs.Job.{all_differ}
+
+pub length_behind : (n : ℕ) (xs : List (List ℕ)) → length (drop n xs) ≡ length xs - n
+length_behind n xs = length-drop n xs
+
+take-next : {A : Type 0} (n : ℕ) (xs rest : List A) (x : A) → drop n xs ≡ x ∷ rest → take (suc n) xs ≡ take n xs ++ x ∷ []
+take-next zero [] rest x e = absurd (cc)
+take-next zero (y ∷ xs) rest x e = ap (λ ys. take 1 ys) e
+take-next (suc n) [] rest x e = absurd (cc)
+take-next (suc n) (y ∷ xs) rest x e = ap (λ ys. y ∷ ys) (take-next n xs rest x e)
+
+-- the names up to a place are the words behind the first, and so they are with the next one
+pub names-grow : (read place : ℕ) (words rest : List (List ℕ)) (names new : List (Bor (List ℕ))) (word : Bor (List ℕ)) → read ≤ place
+    → names_of names ≡ take (place - read) (drop read words) → new ≡ names ++ word ∷ [] → drop (place + 1 - 1) words ≡ word.now ∷ rest
+    → names_of new ≡ take (place + 1 - read) (drop read words)
+names-grow read place words rest names new word h is grown e =
+    let far : read + (place - read) ≡ place + 1 - 1 = omega arith in
+    let more : suc (place - read) ≡ place + 1 - read = omega arith in
+    ap names_of grown
+    ∙ (map-append (λ (name : Bor (List ℕ)). name.now) names (word ∷ [])
+    ∙ (ap (λ ns. ns ++ word.now ∷ []) is
+    ∙ (sym (take-next (place - read) (drop read words) rest word.now (drop-drop (place - read) read words ∙ (ap (λ n. drop n words) far ∙ e)))
+    ∙ ap (λ n. take n (drop read words)) more)))
 
 pub all-map : {A B : Type 0} (f : B → Bool) (g : A → B) (xs : List A) → list_all f (map g xs) ≡ list_all (λ x. f (g x)) xs
 all-map f g [] = refl

@@ -18,7 +18,7 @@ use Rattle.asp_tools.proofs.OutcomeLaws.{exactly-outcome}
 use Rattle.asp_tools.specs.declared.outcome.Outcome.{Outcome}
 use Rattle.asp_tools.specs.declared.answer.Answer.{Answer}
 use Rattle.asp_tools.specs.declared.command.Command.{Command}
-use Rattle.asp_tools.specs.declared.command.Command.TheVariants.{Lp2sat, Back, Check}
+use Rattle.asp_tools.specs.declared.command.Command.TheVariants.{Lp2normal, Lp2sat, Back, Check}
 
 sat-calls : (texts : List (List ℕ)) (answer : Answer) (made : List (List ℕ)) (said : List ℕ) → SatInOrder texts answer made said → SatAnswers texts answer made said
 sat-calls [] answer made said h = h
@@ -26,6 +26,7 @@ sat-calls (text ∷ []) answer made said h = h.0
 sat-calls (text ∷ next ∷ texts) answer made said h = h
 
 calls-weaker : (command : Command) (texts : List (List ℕ)) (answer : Answer) (made : List (List ℕ)) (said : List ℕ) → CallFor (promise_in_order command) texts answer made said → CallFor (promise_of command) texts answer made said
+calls-weaker (Lp2normal format) texts answer made said h = record { within = h.within; answers = h.answers; silent = h.silent }
 calls-weaker Lp2sat texts answer made said h = record { within = h.within; answers = sat-calls texts answer made said h.answers; silent = h.silent }
 calls-weaker Back texts answer made said h = record { within = h.within; answers = h.answers; silent = h.silent }
 calls-weaker Check texts answer made said h = record { within = h.within; answers = h.answers; silent = h.silent }

@@ -3,7 +3,7 @@ use Rattle.std.specs.Prelude.{ℕ, ◌+◌, List, [], ◌∷◌, Bool, true, fal
 use Rattle.std.specs.List.{list_all}
 use Rattle.std.specs.declared.option.Option.{Option}
 use Rattle.std.specs.Str.{bytes_eq}
-use Rattle.asp_tools.specs.Calls.{command_of, reads_of, writes_of}
+use Rattle.asp_tools.specs.Calls.{command_of, with_flag, reads_of, writes_of}
 use Rattle.asp_tools.specs.declared.command.Command.{Command}
 
 -- a command with the names that it reads and writes
@@ -37,11 +37,21 @@ job_with command names =
     })
     else None
 
-abbrev pub job_by : Option Command → List (List ℕ) → Option SeenJob
-job_by None names = None
-job_by (Some command) names = job_with command names
+-- the flags of a command, in any order and each once, and behind them its names
+abbrev pub job_behind : Command → List (List ℕ) → Option SeenJob
+job_behind command [] = job_with command []
+job_behind command (word ∷ words) =
+    elim (with_flag command word) [
+      | None ↦ job_with command (word ∷ words)
+      | Some flagged ↦ job_behind flagged words
+    ]
 
--- a command's word and its names: lp2sat IN OUT MAP, back FORMULA MAP ANSWER, check IN ATOMS
+abbrev pub job_by : Option Command → List (List ℕ) → Option SeenJob
+job_by None words = None
+job_by (Some command) words = job_behind command words
+
+-- a command's word, its flags, and its names: lp2normal [--smodels] IN OUT, lp2sat IN OUT MAP,
+-- back FORMULA MAP ANSWER, check IN ATOMS
 abbrev pub job : List (List ℕ) → Option SeenJob
 job [] = None
-job (word ∷ names) = job_by (command_of word) names
+job (word ∷ words) = job_by (command_of word) words

@@ -3,6 +3,7 @@ pub mod Calls
 pub mod CallsInOrder
 pub mod CheckAnswers
 pub mod Job
+pub mod NormalAnswers
 pub mod Outcome
 pub mod ProgramText
 pub mod Ran

@@ -2,6 +2,7 @@
 -- names them.
 pub mod Long
 pub mod Names
+pub mod Normalizing
 pub mod OnValues
 pub mod Replying
 pub mod TooLong

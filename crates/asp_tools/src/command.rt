@@ -2,18 +2,29 @@
 
 ghost use Rattle.std.specs.Prelude.{◌≡◌, ◌≤◌, ◌^◌, ℕ, Bool, false, List, [], length, IfOk, if◌then◌else◌};
 ghost use Rattle.std.specs.List.{AllByRecursion};
-ghost use Rattle.asp_tools.specs.Calls.{command_of, reads_of, writes_of, makes, says};
+ghost use Rattle.asp_tools.specs.Calls.{command_of, with_flag, reads_of, writes_of, makes, says};
 ghost use Rattle.asp_tools.specs.CallsInOrder.{calls_in_order};
 
 use crate::answer::Answer;
-use crate::{back, checking, lp2sat};
+use crate::{back, checking, lp2normal, lp2sat};
 use asp_base::{ByteList, Memory, VecList};
 use job_shell::Reply;
 use std::alloc::Global;
 
+/// The formats in which a program is written.
+#[derive(Clone, Copy, Debug, PartialEq, Eq)]
+pub enum TextFormat {
+    /// aspif 1.0.
+    Aspif,
+    /// smodels text.
+    Smodels,
+}
+
 /// What the tools do.
 #[derive(Clone, Copy, Debug, PartialEq, Eq)]
 pub enum Command {
+    /// `lp2normal [--smodels] IN OUT`: a program of normal rules that stands for the program of IN.
+    Lp2normal(TextFormat),
     /// `lp2sat IN OUT MAP`: the formula and the map of the program of IN.
     Lp2sat,
     /// `back FORMULA MAP ANSWER`: what a solver's answer to the formula says of the program.
@@ -28,9 +39,23 @@ impl Command {
         ensures { result ≡ command_of word.now }
     {
         match word {
+            "lp2normal" => Some(Command::Lp2normal(TextFormat::Aspif)),
             "lp2sat" => Some(Command::Lp2sat),
             "back" => Some(Command::Back),
             "check" => Some(Command::Check),
+            _ => None,
+        }
+    }
+
+    /// The command with this flag, which it takes once; None where it takes no such flag.
+    pub fn with_flag(self, word: &str) -> Option<Command>
+        ensures { result ≡ with_flag self word.now }
+    {
+        match self {
+            Command::Lp2normal(TextFormat::Aspif) => match word {
+                "--smodels" => Some(Command::Lp2normal(TextFormat::Smodels)),
+                _ => None,
+            },
             _ => None,
         }
     }
@@ -40,7 +65,7 @@ impl Command {
         ensures { result ≡ reads_of self }
     {
         match self {
-            Command::Lp2sat => 1,
+            Command::Lp2normal(_) | Command::Lp2sat => 1,
             Command::Back => 3,
             Command::Check => 2,
         }
@@ -51,6 +76,7 @@ impl Command {
         ensures { result ≡ writes_of self }
     {
         match self {
+            Command::Lp2normal(_) => 1,
             Command::Lp2sat => 2,
             Command::Back | Command::Check => 0,
         }
@@ -79,6 +105,7 @@ impl job_shell::Command for Command {
         ensures said { IfOk result (λ r. says self.now r.answer ≡ false → r.said ≡ []) }
     {
         match self {
+            Command::Lp2normal(format) => lp2normal::reply(alloc, *format, texts),
             Command::Lp2sat => lp2sat::reply(alloc, texts),
             Command::Back => back::reply(alloc, texts),
             Command::Check => checking::reply(alloc, texts),

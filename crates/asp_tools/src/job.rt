@@ -1,11 +1,11 @@
 //! The job that words name: a command with the names of its files.
 
-ghost use Rattle.std.specs.Prelude.{◌≡◌, ◌<◌, ◌≤◌, true, MatchOption, drop, length, not};
+ghost use Rattle.std.specs.Prelude.{◌≡◌, ◌+◌, ◌≤◌, true, MatchOption, drop, length, not};
 ghost use Rattle.std.specs.List.{list_all};
 ghost use Rattle.std.specs.Str.{bytes_eq};
 ghost use Rattle.job_shell.specs.Reads.{AllDiffer, names_of};
 ghost use Rattle.asp_tools.specs.Calls.{reads_of, writes_of};
-ghost use Rattle.asp_tools.specs.Job.{is_name, all_differ, are_names, job, job_with};
+ghost use Rattle.asp_tools.specs.Job.{is_name, all_differ, are_names, job, job_behind, job_with};
 
 use crate::command::Command;
 use arrayvec::ArrayVec;
@@ -76,23 +76,40 @@ impl<'a> Job<'a> {
     }
 }
 
-/// The job that the words name. A name is not empty, does not begin with `-`, and differs from the others.
+/// The job that the words name: the word of a command, flags of it, each once, and names. A name is not empty, does not
+/// begin with `-`, and differs from the others.
 pub fn job_of<'a>(words: &'a Words) -> Option<Job<'a>>
     ensures { result ≡ job words.now }
 {
     let command = Command::of_word(words.word(1)?)?;
-    job_with(command, words)
+    job_behind(command, words, 1)
 }
 
-/// The job of a command with the names behind its word.
-fn job_with<'a>(command: Command, words: &'a Words) -> Option<Job<'a>>
-    requires { 0 < length words.now }
-    ensures { result ≡ job_with command (drop 1 words.now) }
+/// The job of a command with the flags and the names behind so many words.
+fn job_behind<'a>(command: Command, words: &'a Words, read: u64) -> Option<Job<'a>>
+    requires { read ≤ length words.now }
+    ensures { result ≡ job_behind command (drop read words.now) }
 {
-    if words.count() != (1 + command.reads() + command.writes()) as u64 {
+    if read == words.count() {
+        return job_with(command, words, read);
+    }
+    let word = words.word(read + 1)?;
+    match command.with_flag(word) {
+        Some(flagged) => job_behind(flagged, words, read + 1),
+        None => job_with(command, words, read),
+    }
+}
+
+/// The job of a command with the names behind so many words.
+#[tactic(auto, using(crate::proofs::NameLaws::length_behind))]
+fn job_with<'a>(command: Command, words: &'a Words, read: u64) -> Option<Job<'a>>
+    requires { read ≤ length words.now }
+    ensures { result ≡ job_with command (drop read words.now) }
+{
+    if words.count() - read != (command.reads() + command.writes()) as u64 {
         return None;
     }
-    let names = names_behind(words)?;
+    let names = names_behind(words, read)?;
     if are_names(names.as_slice()) {
         Some(Job { command, names })
     } else {
@@ -100,15 +117,15 @@ fn job_with<'a>(command: Command, words: &'a Words) -> Option<Job<'a>>
     }
 }
 
-/// The words behind the first.
-fn names_behind<'a>(words: &'a Words) -> Option<ArrayVec<&'a str, NAMES>>
-    requires some { 0 < length words.now }
-    requires few { length words.now ≤ 4 }
-    ensures { MatchOption result ⊥ (λ names. names_of names.items ≡ drop 1 words.now) }
+/// The words behind so many.
+fn names_behind<'a>(words: &'a Words, read: u64) -> Option<ArrayVec<&'a str, NAMES>>
+    requires some { read ≤ length words.now }
+    requires few { length words.now ≤ read + 3 }
+    ensures { MatchOption result ⊥ (λ names. names_of names.items ≡ drop read words.now) }
 {
     let mut names = ArrayVec::new();
-    for place in 2..words.count() + 1 {
-        names.push(words.word(place)?);
+    for place in read..words.count() {
+        names.push(words.word(place + 1)?);
     }
     Some(names)
 }

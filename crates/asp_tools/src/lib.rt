@@ -8,6 +8,7 @@ mod command;
 mod complaint;
 mod job;
 pub mod laws;
+mod lp2normal;
 mod lp2sat;
 mod outcome;
 mod program_text;
@@ -16,7 +17,7 @@ mod sayings;
 mod tool;
 
 pub use answer::{Answer, Refused};
-pub use command::Command;
+pub use command::{Command, TextFormat};
 pub use job::{Job, job_of};
 pub use outcome::{Kind, Outcome, Why};
 pub use tool::run;

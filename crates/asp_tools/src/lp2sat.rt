@@ -56,7 +56,7 @@ fn reply_on(alloc: Global, program: Program) -> Result<Reply<Answer>, Memory>
 {
     match translate(alloc, program) {
         Ok(translation) => texts_of(alloc, translation),
-        Err(TranslateRefusal::NotBuilt) => Ok(refused(alloc, 1, 0, Kind::NotBuilt)),
+        Err(TranslateRefusal::Edges) => Ok(refused(alloc, 1, 0, Kind::Edges)),
         Err(TranslateRefusal::TooLarge { number }) => {
             Ok(saying(alloc, Answer::TooLarge { number }, Vec::new(alloc)))
         }

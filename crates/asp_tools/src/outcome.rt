@@ -27,8 +27,11 @@ pub enum Kind {
     Answer(AnswerKind),
     /// The map has another number of variables than the formula. Line 0.
     Mismatch { formula_vars: u32, map_vars: u32 },
-    /// The program has a part that is not translated yet. Line 0.
-    NotBuilt,
+    /// The program has edges, which are not translated yet. Line 0.
+    Edges,
+    /// The program has a part that smodels text does not have: an edge, a weight of a level below 0, or a name that is
+    /// empty, begins with a space or tab, or ends with a carriage return. Line 0.
+    NotSmodels,
 }
 
 impl Kind {
@@ -43,7 +46,8 @@ impl Kind {
             Kind::Map(kind) => kind.name(),
             Kind::Answer(kind) => kind.name(),
             Kind::Mismatch { .. } => "Mismatch",
-            Kind::NotBuilt => "NotBuilt",
+            Kind::Edges => "Edges",
+            Kind::NotSmodels => "NotSmodels",
         }
     }
 }
@@ -76,7 +80,7 @@ pub enum Outcome {
     Rejected(Why),
     /// The solver's answer has no values: there is no model, or none is known.
     NoModelGiven,
-    /// The program's size is this number, above 2^24.
+    /// The program's room is this number, above 2^24.
     TooLarge { number: u64 },
     /// The file could not be read.
     ReadFault { file: u32 },

@@ -16,7 +16,7 @@ use std::alloc::Global;
 ///
 /// The answers come in this order: `BadWords`; `ReadFault`, or `Refused` with `TextTooLong`, at the first of the files,
 /// which are read in their order; the first fault of a text, in the order of the files, a `Mismatch` of formula and map
-/// before the fault of an answer; `NoModelGiven`; `NotBuilt`; `TooLarge`; `Rejected`; `WriteFault`, which takes the
+/// before the fault of an answer; `NoModelGiven`; `NotSmodels` or `Edges`; `TooLarge`; `Rejected`; `WriteFault`, which takes the
 /// place of an outcome that could not be said. `Memory` may come at any step before the first output is begun or
 /// something is said.
 pub fn run<'a, D: Desk<'a>>(alloc: Global, words: &'a Words, desk: &mut D) -> Outcome
@@ -26,7 +26,7 @@ pub fn run<'a, D: Desk<'a>>(alloc: Global, words: &'a Words, desk: &mut D) -> Ou
     ensures unchanged { result ≡ Outcome.BadWords → D.state desk.new ≡ D.state desk.old }
     // Each answer has its cause, and leaves the desk so; what is written translates what was read.
     ensures ran { IfSome (job words.now) (λ j. Ran j (D.state desk.old) (D.state desk.new) result) }
-    // The formulas that are written are completions, in order.
+    // The formulas of normal programs are completions, with the rankings behind them.
     ensures in_order { IfSome (job words.now) (λ j. InOrder j (D.state desk.old) (D.state desk.new) result) }
     // Without a fault of the desk the outcome is the one that the texts call for, or memory ran out.
     ensures completes { IfSome (job words.now) (λ j. Completes j (D.state desk.old) (D.state desk.new) result) }

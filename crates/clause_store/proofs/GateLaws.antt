@@ -9,10 +9,11 @@ use Rattle.asp_base.specs.Sets.{Set}
 use Rattle.asp_base.proofs.Bools.{and_true}
 use Rattle.asp_base.proofs.Each.{each-weaker, each-append, each-map}
 use Rattle.asp_base.proofs.LiteralLaws.{equal_from_same, literal_holds-negation}
+pub use Rattle.clause_store.specs.Additions.{IsSound}
+use Rattle.clause_store.specs.Additions.{IsGate}
 use Rattle.clause_store.specs.Extension.{Agree, Extends, StandsForAll}
 use Rattle.clause_store.specs.Facts.{IsOver}
 use Rattle.clause_store.specs.Models.{is_true, all_true, clause_true, clauses_true, IsAssignment}
-use Rattle.clause_store.specs.private.Kept.{IsGate}
 use Rattle.clause_store.specs.Stored.{Stored, same_literals, find_known, gate_clauses, with_gate, gate_output, conjunction, after_conjunction}
 
 -- ---- truth
@@ -126,11 +127,6 @@ unit_says false = refl
 
 -- ---- extensions
 
--- the clauses are over the store's variables, and the known conjunctions have their meaning
-pub record IsSound (s : Stored) : Type 0 where
-  pub over : AllByRecursion (AllByRecursion (IsOver s.vars)) s.hard
-  pub known : AllByRecursion (IsGate s.vars s.hard) s.known
-
 pub Extends-same : (s : Stored) → Extends s s
 Extends-same s = record { vars = omega arith; edges = refl; soft = refl; keeps = λ A t. t; some = λ A a t. (A, a, t, λ v h. refl); one = λ A B t u e. e }
 
@@ -151,23 +147,24 @@ Extends-compose s t u x y =
     }
 
 -- an assignment with a value for one more variable
-abbrev with_value : ℕ → Bool → Set → Set
+abbrev pub with_value : ℕ → Bool → Set → Set
 with_value g b A v = cond (v == g) b (A v)
 
-with_value-agree : (n : ℕ) (b : Bool) (A : Set) → Agree n A (with_value (suc n) b A)
+pub with_value-agree : (n : ℕ) (b : Bool) (A : Set) → Agree n A (with_value (suc n) b A)
 with_value-agree n b A v h = sym (cond-false (v == suc n) b (A v) (ne_eqb v (suc n) (λ e. omega arith)))
 
-with_value-at : (n : ℕ) (b : Bool) (A : Set) → with_value (suc n) b A (suc n) ≡ b
+pub with_value-at : (n : ℕ) (b : Bool) (A : Set) → with_value (suc n) b A (suc n) ≡ b
 with_value-at n b A = cond-true (suc n == suc n) b (A (suc n)) (eq-eqb (suc n) (suc n) refl)
 
-with_value-over : (n : ℕ) (b : Bool) (A : Set) → IsAssignment n A → IsAssignment (suc n) (with_value (suc n) b A)
+pub with_value-over : (n : ℕ) (b : Bool) (A : Set) → IsAssignment n A → IsAssignment (suc n) (with_value (suc n) b A)
 with_value-over n b A h v = go (v == suc n) refl
   where
     go : (q : Bool) → (v == suc n) ≡ q → cond q b (A v) ≡ true → (0 < v) × (v ≤ suc n)
     go true e t = let k : v ≡ suc n = eqb-true v (suc n) e in (omega arith, omega arith)
     go false e t = let k : (0 < v) × (v ≤ n) = h v t in let low : 0 < v = k.0 in let high : v ≤ n = k.1 in (low, omega arith)
 
-up_to-next : (n v : ℕ) → v ≤ suc n → (P : ℕ → Type 0) → ((u : ℕ) → u ≤ n → P u) → P (suc n) → P v
+-- what holds of the numbers up to n, and of the next one
+pub up_to-next : (n v : ℕ) → v ≤ suc n → (P : ℕ → Type 0) → ((u : ℕ) → u ≤ n → P u) → P (suc n) → P v
 up_to-next n v h P below here = go (v == suc n) refl
   where
     go : (q : Bool) → (v == suc n) ≡ q → P v

@@ -1,5 +1,7 @@
+pub mod AddLaws
 mod Cuts
 pub mod GateLaws
 mod Keys
-mod StoreLaws
+pub mod StoreLaws
+pub mod TableGates
 mod Values

@@ -1,7 +1,9 @@
+pub mod Additions
 pub mod Assigned
 pub mod Clauses
 pub mod Extension
 pub mod Facts
+pub mod Gates
 pub mod Models
 pub mod Stored
 pub mod private

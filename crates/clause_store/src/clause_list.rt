@@ -81,6 +81,11 @@ impl ClauseList {
         }
     }
 
+    /// The allocator that the list takes its memory from.
+    pub fn allocator(&self) -> Global {
+        *self.lits.allocator()
+    }
+
     /// The number of clauses.
     pub fn len(&self) -> usize
         ensures { result ≡ length self.now }

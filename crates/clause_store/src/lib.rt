@@ -6,6 +6,7 @@ mod assignment;
 mod clause_list;
 mod conjunction;
 mod formula;
+mod gate;
 mod known;
 mod store;
 

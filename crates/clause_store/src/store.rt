@@ -1,17 +1,21 @@
-//! A store in which a formula grows: variables, clauses, and conjunctions with a variable of their own.
+//! A store in which a formula grows: variables, clauses, gates, and conjunctions with a variable of their own.
 
-ghost use Rattle.std.specs.Prelude.{◌≡◌, ◌<◌, ◌-◌, ◌^◌, ℕ, suc, List, [], None, IfOk, OnOk, OnErr};
+ghost use Rattle.std.specs.Prelude.{◌≡◌, ◌<◌, ◌+◌, ◌-◌, ◌^◌, ℕ, suc, length, List, [], None, IfOk, OnOk, OnErr};
 ghost use Rattle.std.specs.List.{AllByRecursion};
 ghost use Rattle.asp_base.specs.Literal.{Pos};
+ghost use Rattle.clause_store.specs.Additions.{IsSound};
 ghost use Rattle.clause_store.specs.Facts.{IsOver};
+ghost use Rattle.clause_store.specs.Gates.{after_gate, IsGateOf};
 ghost use Rattle.clause_store.specs.Extension.{StandsForAll};
 ghost use Rattle.clause_store.specs.Stored.{inputs_only, with_variable, with_clause, conjunction, after_conjunction, formula_of_store, find_known, gate_output, with_gate};
 
 use crate::clause_list::ClauseList;
 use crate::conjunction::push_conjunction;
 use crate::formula::{Formula, LitEdgeList, SoftList};
+use crate::gate::push_gate;
 use crate::known::Known;
 use asp_base::{Lit, Memory};
+use gate_tables::Table;
 use std::alloc::Global;
 use std::marker::Model;
 
@@ -62,6 +66,19 @@ impl Store {
         self.vars
     }
 
+    /// The allocator that the store takes its memory from.
+    pub fn allocator(&self) -> Global {
+        self.alloc
+    }
+
+    /// What every store is known to keep.
+    pub fn known(&self)
+        ensures sound { IsSound self.now }
+        ensures few { self.now.vars < 2 ^ 31 }
+    {
+        let _vars = &self.vars;
+    }
+
     /// A new variable. After `Memory` the store is unchanged.
     pub fn fresh(&mut self) -> Result<Lit, Memory>
         requires { self.old.vars < 2 ^ 31 - 1 }
@@ -79,6 +96,28 @@ impl Store {
         ensures err { OnErr result (self.new ≡ self.old) }
     {
         self.hard.push(lits)
+    }
+
+    /// A new variable that has the table's value for the inputs, with a clause for each of the table's rows. After
+    /// `Memory` the store is unchanged.
+    pub fn gate<const K: usize, const C: usize>(
+        &mut self,
+        table: &Table<K, C>,
+        inputs: [Lit; K],
+    ) -> Result<Lit, Memory>
+        requires over { AllByRecursion (IsOver self.old.vars) inputs }
+        requires room { self.old.vars < 2 ^ 31 - 1 }
+        ensures gate { IfOk result (λ l. IsGateOf table.now inputs.entry self.old self.new l) }
+        ensures literal { IfOk result (λ l. l ≡ Pos (suc self.old.vars)) }
+        ensures ok { OnOk result (self.new ≡ after_gate table.now inputs.entry self.old) }
+        ensures count { OnOk result (length self.new.hard ≡ length self.old.hard + C) }
+        ensures err { OnErr result (self.new ≡ self.old) }
+    {
+        table.known();
+        let output = Lit::positive(self.vars + 1);
+        push_gate(&mut self.hard, table, &inputs, output)?;
+        self.vars += 1;
+        Ok(output)
     }
 
     /// A literal that is true just where all of the literals are. A single literal is answered itself, no literal gives

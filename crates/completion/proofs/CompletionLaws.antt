@@ -322,6 +322,10 @@ module _ (P : Ground) (fits : IsProgram P) where
   pub completed-edges : (completed P).edges ≡ []
   completed-edges = bodies-done.extends.edges
 
+  -- there is a variable for each atom
+  pub completed-has_atoms : length P.atoms ≤ (completed P).vars
+  completed-has_atoms = bodies-done.extends.vars
+
   pub completed-soft : (completed P).soft ≡ []
   completed-soft = bodies-done.extends.soft
 

@@ -1,13 +1,12 @@
--- Through its map the completion of a normal program with negative bodies has the stable models, with names and costs.
-use Rattle.std.proofs.Common.{◌≡◌, refl, sym, ◌∙◌, ap, ap₂, subst, ℕ, suc, ◌+◌, ◌≤◌, ◌<◌, ℤ, pos, ◌+ℤ◌, Bool, true, false, cond, ◌&&◌, ◌||◌, ◌==◌, List, [], ◌∷◌, map, filter, arith}
+-- Through its map a formula with a program's stable models, over its atoms, stands for the program, with names and costs.
+use Rattle.std.proofs.Common.{◌≡◌, refl, sym, ◌∙◌, ap, ap₂, subst, ℕ, ℤ, pos, ◌+ℤ◌, Bool, true, false, cond, ◌&&◌, ◌||◌, ◌==◌, List, [], ◌∷◌, map, filter}
 use mathlib.Core.Path.{fun_ext}
-use Rattle.std.proofs.lemmas.Bool.{true≢false, eqb-true, false_from_ne_true}
+use Rattle.std.proofs.lemmas.Bool.{true≢false, eqb-true}
 use Rattle.asp_base.proofs.Bools.{or_false}
 use Rattle.asp_base.specs.Literal.{Literal, all_hold}
 use Rattle.asp_base.specs.Sets.{Set, members, Same}
 use Rattle.ground_program.specs.Ground.{Ground}
 use Rattle.ground_program.specs.Facts.{IsProgram}
-use Rattle.rising_numbers.specs.Rising.{RisesFrom}
 use Rattle.ground_program.specs.Negative.{HasNegativeBodies}
 use Rattle.ground_program.specs.Normal.{AreNormal}
 use Rattle.rising_numbers.specs.Rising.{place}
@@ -15,7 +14,7 @@ use Rattle.ground_program.specs.Stable.{weight_of, costs_of, first_ones, Stable,
 use Rattle.ground_program.specs.declared.program.Level.{Level}
 use Rattle.ground_program.specs.declared.program.Show.{Show}
 use Rattle.rising_numbers.proofs.PlaceLaws.{place-outside}
-use Rattle.rising_numbers.proofs.RisingLaws.{members-above}
+use Rattle.clause_store.specs.Clauses.{Clauses}
 use Rattle.clause_store.specs.Models.{IsModel}
 use Rattle.symbol_map.specs.declared.map.Form.TheVariants.{Cnf, Wcnf}
 use Rattle.symbol_map.specs.Restrict.{atoms_true, restrict}
@@ -25,30 +24,30 @@ use Rattle.completion.specs.Supported.{HasStable}
 use Rattle.completion.proofs.Places.{is_true-over, all_true-over}
 use Rattle.completion.proofs.CompletionLaws.{zero_false}
 use Rattle.completion.proofs.StableLaws.{completion-has_stable}
-use Rattle.sat_translation.specs.InputMap.{numbered, literals_over, show_over, items_over, level_over, input_map}
+use Rattle.sat_translation.specs.InputMap.{placed, literals_over, show_over, items_over, level_over, input_map}
 
 -- ---- the places
 
-absent : (low : ℕ) (xs : List ℕ) (a : ℕ) → RisesFrom low xs → a ≤ low → members xs a ≡ false
-absent low xs a r h = false_from_ne_true (members xs a) (λ e. let k : low < a = members-above low xs a r e in omega arith)
-
 -- what the places say of an atom
-numbered-says : (n low : ℕ) (xs : List ℕ) (A : Set) (a : ℕ) → RisesFrom low xs → atoms_true (numbered n xs) A a ≡ (members xs a && A (n + place xs a))
-numbered-says n low [] A a r = refl
-numbered-says n low (x ∷ xs) A a r = go (x == a) refl (members xs a) refl (numbered-says (suc n) x xs A a r.1)
+placed-says : (atoms kept : List ℕ) (A : Set) (a : ℕ) → atoms_true (map (placed atoms) kept) A a ≡ (members kept a && A (place atoms a))
+placed-says atoms [] A a = refl
+placed-says atoms (x ∷ kept) A a = go (x == a) refl (members kept a) (placed-says atoms kept A a)
   where
-    go : (p : Bool) → (x == a) ≡ p → (q : Bool) → members xs a ≡ q → atoms_true (numbered (suc n) xs) A a ≡ (q && A (suc n + place xs a))
-        → ((p && A (suc n)) || atoms_true (numbered (suc n) xs) A a) ≡ ((p || q) && A (n + cond p 1 (cond q (suc (place xs a)) 0)))
-    go true s true m h = absurd (true≢false (sym m ∙ absent x xs a r.1 (let k : x ≡ a = eqb-true x a s in omega arith)))
-    go true s false m h = ap (λ b. A (suc n) || b) h ∙ (or_false (A (suc n)) ∙ ap A (let k : suc n ≡ n + 1 = omega arith in k))
-    go false s true m h = h ∙ ap A (let k : suc n + place xs a ≡ n + suc (place xs a) = omega arith in k)
-    go false s false m h = h
+    twice : (b : Bool) → (b || b) ≡ b
+    twice true = refl
+    twice false = refl
 
-pub restrict-is : (P : Ground) → IsProgram P → (A : Set) → A 0 ≡ false → restrict (input_map P) A ≡ atoms_at P.atoms A
-restrict-is P f A z = fun_ext (λ a. numbered-says 0 0 P.atoms A a f.atoms_rise ∙ go a (members P.atoms a) refl)
+    go : (p : Bool) → (x == a) ≡ p → (q : Bool) → atoms_true (map (placed atoms) kept) A a ≡ (q && A (place atoms a))
+        → ((p && A (place atoms x)) || atoms_true (map (placed atoms) kept) A a) ≡ ((p || q) && A (place atoms a))
+    go true s true h = ap₂ (λ b d. b || d) (ap (λ y. A (place atoms y)) (eqb-true x a s)) h ∙ twice (A (place atoms a))
+    go true s false h = ap₂ (λ b d. b || d) (ap (λ y. A (place atoms y)) (eqb-true x a s)) h ∙ or_false (A (place atoms a))
+    go false s q h = h
+
+pub restrict-is : (P : Ground) (vars : ℕ) (A : Set) → A 0 ≡ false → restrict (input_map P P.atoms vars) A ≡ atoms_at P.atoms A
+restrict-is P vars A z = fun_ext (λ a. placed-says P.atoms P.atoms A a ∙ go a (members P.atoms a) refl)
   where
-    go : (a : ℕ) (q : Bool) → members P.atoms a ≡ q → (q && A (0 + place P.atoms a)) ≡ A (place P.atoms a)
-    go a true e = ap A (let k : 0 + place P.atoms a ≡ place P.atoms a = omega arith in k)
+    go : (a : ℕ) (q : Bool) → members P.atoms a ≡ q → (q && A (place P.atoms a)) ≡ A (place P.atoms a)
+    go a true e = refl
     go a false e = sym (ap A (place-outside P.atoms a e) ∙ z)
 
 -- ---- names and costs
@@ -81,9 +80,9 @@ pub costs-over : (atoms : List ℕ) (levels : List Level) (A : Set) → costs_of
 costs-over atoms [] A = refl
 costs-over atoms (level ∷ levels) A = ap₂ ◌∷◌ (weight-over atoms level.items A) (costs-over atoms levels A)
 
-pub atoms-numbered : (n : ℕ) (xs : List ℕ) → map (λ place. place.atom) (numbered n xs) ≡ xs
-atoms-numbered n [] = refl
-atoms-numbered n (x ∷ xs) = ap (λ ys. x ∷ ys) (atoms-numbered (suc n) xs)
+pub atoms-placed : (atoms kept : List ℕ) → map (λ place. place.atom) (map (placed atoms) kept) ≡ kept
+atoms-placed atoms [] = refl
+atoms-placed atoms (x ∷ kept) = ap (λ ys. x ∷ ys) (atoms-placed atoms kept)
 
 pub priorities-over : (atoms : List ℕ) (levels : List Level) → map (λ level. level.priority) (map (level_over atoms) levels) ≡ map (λ level. level.priority) levels
 priorities-over atoms [] = refl
@@ -91,23 +90,27 @@ priorities-over atoms (level ∷ levels) = ap (λ ps. level.priority ∷ ps) (pr
 
 -- ---- all together
 
-cnf_is_not : Cnf ≡ Wcnf → ⊥
+pub cnf_is_not : Cnf ≡ Wcnf → ⊥
 cnf_is_not e = cc
 
-pub completion-faithful : (P : Ground) → IsProgram P → AreNormal P.rules → HasNegativeBodies P.rules → P.edges ≡ [] → FaithfulMap P (completion P) (input_map P)
-completion-faithful P f n h none =
-    let has : HasStable P (completion P) = completion-has_stable P f n h none in
-    let is : (A : Set) → IsModel (completion P) A → restrict (input_map P) A ≡ atoms_at P.atoms A = λ A m. restrict-is P f A (zero_false _ A m.over) in
+-- a formula with the stable models of a program, over its atoms, stands for it through the map
+pub over_atoms-faithful : (P : Ground) (F : Clauses) → HasStable P F → FaithfulMap P F (input_map P P.atoms F.vars)
+over_atoms-faithful P F has =
+    let is : (A : Set) → IsModel F A → restrict (input_map P P.atoms F.vars) A ≡ atoms_at P.atoms A = λ A m. restrict-is P F.vars A (zero_false _ A m.over) in
     record {
       covers = record {
-        map_of = record { vars = refl; atoms = atoms-numbered 0 P.atoms; priorities = priorities-over P.atoms P.levels };
+        map_of = record { vars = refl; atoms = atoms-placed P.atoms P.atoms; priorities = priorities-over P.atoms P.levels };
         stable = λ A m. subst (Stable P) (sym (is A m)) (has.stable A m);
         names = λ A m. ap first_ones (shown-over P.atoms P.shows A) ∙ sym (ap (visible P) (is A m));
         costs = λ A m. costs-over P.atoms P.levels A ∙ sym (ap (cost P) (is A m));
         onto = λ M s.
-            let top : (A : Set) × IsModel (completion P) A × Same (atoms_at P.atoms A) M = has.onto M s in
+            let top : (A : Set) × IsModel F A × Same (atoms_at P.atoms A) M = has.onto M s in
             (top.0, top.1, λ a. ap (λ X. X a) (is top.0 top.1) ∙ top.2 a);
       };
       one = λ A B m k e. has.one A B m k (λ a. ap (λ X. X a) (sym (is A m)) ∙ (e a ∙ ap (λ X. X a) (is B k)));
       soft = λ w. absurd (cnf_is_not w);
     }
+
+pub completion-faithful : (P : Ground) → IsProgram P → AreNormal P.rules → HasNegativeBodies P.rules → P.edges ≡ []
+    → FaithfulMap P (completion P) (input_map P P.atoms (completion P).vars)
+completion-faithful P f n h none = over_atoms-faithful P (completion P) (completion-has_stable P f n h none)

@@ -1,69 +1,38 @@
--- The map of a completion is a map: a completion has a variable for each atom, and renaming keeps what is true of a program.
-use Rattle.std.proofs.Common.{◌≡◌, sym, subst, ℕ, suc, ℤ, pos, ◌+◌, ◌<◌, ◌≤◌, ◌^◌, ◌-◌, List, [], ◌∷◌, map, length, Option, None, Some, arith}
+-- The map of a formula over a program's atoms is a map: there is a variable for each atom, and renaming keeps what is true of a
+-- program.
+use Rattle.std.proofs.Common.{◌≡◌, refl, sym, subst, ℕ, ℤ, pos, ◌+◌, ◌<◌, ◌≤◌, ◌^◌, List, [], ◌∷◌, map, length, arith}
 use Rattle.std.specs.List.{AllByRecursion, sum_by}
 use Rattle.std.proofs.lemmas.List.{length-map}
 use Rattle.std.proofs.lemmas.List.Sums.{sum_by-cons}
 use Rattle.asp_base.specs.Literal.{Literal, Pos, Neg, atom_of}
-use Rattle.clause_store.specs.Stored.{Stored, with_gate, find_known, after_conjunction}
-use Rattle.completion.specs.Completion.{after_body, after_head, after_rules, inputs_of, atoms_only, completion}
+use Rattle.asp_base.specs.Sets.{members, Within}
+use Rattle.std.proofs.lemmas.Bool.{or_left, or_right, eq-eqb}
 use Rattle.ground_program.specs.Occurrences.{over_variables}
 use Rattle.ground_program.specs.Facts.{FallsFrom, IsAtom, IsShort, IsPriority, Among, LiteralsFit, LevelFits, ShowFits, FitsWeight, IsProgram}
 use Rattle.rising_numbers.specs.Rising.{RisesFrom}
 use Rattle.ground_program.specs.Ground.{Ground}
 use Rattle.ground_program.specs.Size.{size}
-use Rattle.ground_program.specs.declared.program.Head.{Head}
-use Rattle.ground_program.specs.declared.program.Head.TheVariants.{Nothing, One, Choice}
 use Rattle.ground_program.specs.declared.program.Level.{Level}
-use Rattle.ground_program.specs.declared.program.Rule.{Rule}
 use Rattle.ground_program.specs.declared.program.Show.{Show}
 use Rattle.rising_numbers.proofs.PlaceLaws.{place-within}
 use Rattle.symbol_map.specs.declared.map.Form.TheVariants.{Cnf}
 use Rattle.symbol_map.specs.declared.map.Place.{Place}
 use Rattle.symbol_map.specs.IsMap.{IsMap, PlacesRise, IsVariable}
-use Rattle.sat_translation.specs.InputMap.{input_map, numbered, literals_over, show_over, level_over}
-
--- ---- a completion has at least as many variables as atoms
-
-with_gate-vars : (inputs : List Literal) (s : Stored) (known : Option ℕ) → s.vars ≤ (with_gate inputs s known).vars
-with_gate-vars inputs s (Some g) = omega arith
-with_gate-vars inputs s None = omega arith
-
-after_conjunction-vars : (lits : List Literal) (s : Stored) → s.vars ≤ (after_conjunction lits s).vars
-after_conjunction-vars [] s = omega arith
-after_conjunction-vars (l ∷ []) s = omega arith
-after_conjunction-vars (l ∷ k ∷ lits) s = with_gate-vars (l ∷ k ∷ lits) s (find_known (l ∷ k ∷ lits) s.known)
-
-after_body-vars : (lits : List Literal) (s : Stored) → s.vars ≤ (after_body lits s).vars
-after_body-vars [] s = omega arith
-after_body-vars (l ∷ lits) s = after_conjunction-vars (l ∷ lits) s
-
-after_head-vars : (head : Head) (inputs : List Literal) (s : Stored) → s.vars ≤ (after_head head inputs s).vars
-after_head-vars Nothing inputs s = omega arith
-after_head-vars (One a) inputs s = after_body-vars inputs s
-after_head-vars (Choice as_) inputs s = omega arith
-
-after_rules-vars : (atoms : List ℕ) (rules : List Rule) (s : Stored) → s.vars ≤ (after_rules atoms rules s).vars
-after_rules-vars atoms [] s = omega arith
-after_rules-vars atoms (rule ∷ rules) s =
-    let next : Stored = after_head rule.head (inputs_of atoms rule) s in
-    let first : s.vars ≤ next.vars = after_head-vars rule.head (inputs_of atoms rule) s in
-    let others : next.vars ≤ (after_rules atoms rules next).vars = after_rules-vars atoms rules next in
-    omega arith
-
-pub completion-has_atoms : (P : Ground) → length P.atoms ≤ (completion P).vars
-completion-has_atoms P = after_rules-vars P.atoms P.rules (atoms_only P)
+use Rattle.sat_translation.specs.InputMap.{input_map, placed, literals_over, show_over, level_over}
 
 -- ---- the parts of the map
 
-numbered-rise : (n low : ℕ) (atoms : List ℕ) → RisesFrom low atoms → PlacesRise low (numbered n atoms)
-numbered-rise n low [] r = tt
-numbered-rise n low (a ∷ atoms) r = (r.0, numbered-rise (suc n) a atoms r.1)
+places-rise : (atoms : List ℕ) (low : ℕ) (kept : List ℕ) → RisesFrom low kept → PlacesRise low (map (placed atoms) kept)
+places-rise atoms low [] r = tt
+places-rise atoms low (a ∷ kept) r = (r.0, places-rise atoms a kept r.1)
 
-numbered-fit : (vars n low : ℕ) (atoms : List ℕ) → RisesFrom low atoms → AllByRecursion (λ a. a ≤ 2 ^ 30) atoms → n + length atoms ≤ vars → AllByRecursion (λ place. IsAtom place.atom × IsVariable vars (atom_of place.lit)) (numbered n atoms)
-numbered-fit vars n low [] r f h = tt
-numbered-fit vars n low (a ∷ atoms) r f h =
+-- rising atoms among others are atoms
+pub kept-fit : (atoms : List ℕ) (low : ℕ) (kept : List ℕ) → RisesFrom low kept → AllByRecursion (λ a. a ≤ 2 ^ 30) kept
+    → Within (members kept) (members atoms) → AllByRecursion (λ a. IsAtom a × Among atoms a) kept
+kept-fit atoms low [] r f w = tt
+kept-fit atoms low (a ∷ kept) r f w =
     let above : low < a = r.0 in
-    (((omega arith, f.0), (omega arith, omega arith)), numbered-fit vars (suc n) a atoms r.1 f.1 (omega arith))
+    (((omega arith, f.0), w a (or_left _ _ (eq-eqb a a refl))), kept-fit atoms a kept r.1 f.1 (λ b m. w b (or_right _ _ m)))
 
 -- what renaming makes of each element
 each-renamed : {A B : Type 0} (f : A → B) (P : A → Type 0) (Q : B → Type 0) → ((x : A) → P x → Q (f x)) → (xs : List A) → AllByRecursion P xs → AllByRecursion Q (map f xs)
@@ -98,21 +67,25 @@ falls-renamed atoms high (level ∷ levels) f = (f.0, falls-renamed atoms level.
 levels_small : (P : Ground) → size P ≤ 2 ^ 24 → sum_by (λ level. 1 + length level.items) P.levels ≤ 2 ^ 24
 levels_small P h = omega arith
 
-pub input_map-is_map : (P : Ground) → IsProgram P → size P ≤ 2 ^ 24 → (completion P).vars ≤ 2 ^ 31 - 1 → IsMap (input_map P)
-input_map-is_map P f small room =
-    let enough : length P.atoms ≤ (completion P).vars = completion-has_atoms P in
+pub input_map-is_map : (P : Ground) (kept : List ℕ) (vars : ℕ) → IsProgram P → size P ≤ 2 ^ 24 → length P.atoms ≤ vars → vars < 2 ^ 31
+    → RisesFrom 0 kept → AllByRecursion (λ a. IsAtom a × Among P.atoms a) kept → IsMap (input_map P kept vars)
+input_map-is_map P kept vars f small enough room rise fit =
     record {
-      vars = room;
-      atoms_rise = numbered-rise 0 0 P.atoms f.atoms_rise;
-      atoms = numbered-fit (completion P).vars 0 0 P.atoms f.atoms_rise f.atoms_fit (omega arith);
-      shows = each-renamed (show_over P.atoms) (ShowFits (Among P.atoms)) (ShowFits (IsVariable (completion P).vars)) (show-renamed P.atoms (completion P).vars enough) P.shows f.shows;
-      levels = levels-renamed P.atoms (completion P).vars enough P.levels (levels_small P small) f.levels;
+      vars = omega arith;
+      atoms_rise = places-rise P.atoms 0 kept rise;
+      atoms = each-renamed (placed P.atoms) (λ a. IsAtom a × Among P.atoms a) (λ place. IsAtom place.atom × IsVariable vars (atom_of place.lit))
+          (λ a k. (k.0, literal-renamed P.atoms vars enough (Pos a) k.1)) kept fit;
+      shows = each-renamed (show_over P.atoms) (ShowFits (Among P.atoms)) (ShowFits (IsVariable vars)) (show-renamed P.atoms vars enough) P.shows f.shows;
+      levels = levels-renamed P.atoms vars enough P.levels (levels_small P small) f.levels;
       priorities = falls-renamed P.atoms (pos (2 ^ 31)) P.levels f.priorities;
       priorities_fit = each-renamed (level_over P.atoms) (λ level. IsPriority level.priority) (λ level. IsPriority level.priority) (λ level k. k) P.levels f.priorities_fit;
     }
 
 -- a map of these parts is one
-pub input_map-made : (P : Ground) (vars : ℕ) (places : List Place) (shows : List Show) (levels : List Level) → IsProgram P → size P ≤ 2 ^ 24 → vars ≡ (completion P).vars → vars ≤ 2 ^ 31 - 1 → places ≡ numbered 0 P.atoms → shows ≡ map (show_over P.atoms) P.shows → levels ≡ map (level_over P.atoms) P.levels → IsMap (record { form = Cnf; vars = vars; atoms = places; shows = shows; levels = levels })
-input_map-made P vars places shows levels f small is room a b d =
-    let same : record { form = Cnf; vars = vars; atoms = places; shows = shows; levels = levels } ≡ input_map P = cc in
-    subst IsMap (sym same) (input_map-is_map P f small (subst (λ n. n ≤ 2 ^ 31 - 1) is room))
+pub input_map-made : (P : Ground) (kept : List ℕ) (vars : ℕ) (places : List Place) (shows : List Show) (levels : List Level) → IsProgram P → size P ≤ 2 ^ 24
+    → length P.atoms ≤ vars → vars < 2 ^ 31 → RisesFrom 0 kept → AllByRecursion (λ a. IsAtom a × Among P.atoms a) kept
+    → places ≡ map (placed P.atoms) kept → shows ≡ map (show_over P.atoms) P.shows → levels ≡ map (level_over P.atoms) P.levels
+    → IsMap (record { form = Cnf; vars = vars; atoms = places; shows = shows; levels = levels })
+input_map-made P kept vars places shows levels f small enough room rise fit a b d =
+    let same : record { form = Cnf; vars = vars; atoms = places; shows = shows; levels = levels } ≡ input_map P kept vars = cc in
+    subst IsMap (sym same) (input_map-is_map P kept vars f small enough room rise fit)

@@ -1,4 +1,4 @@
-pub mod BuiltLaws
 pub mod InputMapLaws
 pub mod IsInputMap
+pub mod MadeLaws
 mod RenamedLaws

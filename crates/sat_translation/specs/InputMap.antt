@@ -1,19 +1,18 @@
--- The map of a completion: variable i stands for the i-th atom.
-use Rattle.std.specs.Prelude.{ℕ, suc, List, [], ◌∷◌, map, ℤ}
+-- The map of a formula over a program's atoms: variable i stands for the i-th atom.
+use Rattle.std.specs.Prelude.{ℕ, List, map, ℤ}
 use Rattle.asp_base.specs.Literal.{Literal, Pos}
+use Rattle.rising_numbers.specs.Rising.{place}
 use Rattle.ground_program.specs.Ground.{Ground}
+use Rattle.ground_program.specs.Occurrences.{over_variables}
 use Rattle.ground_program.specs.declared.program.Level.{Level}
 use Rattle.ground_program.specs.declared.program.Show.{Show}
 use Rattle.symbol_map.specs.declared.map.Form.TheVariants.{Cnf}
 use Rattle.symbol_map.specs.declared.map.Place.{Place}
 use Rattle.symbol_map.specs.Symbols.{Symbols}
-use Rattle.completion.specs.Completion.{completion}
-use Rattle.ground_program.specs.Occurrences.{over_variables}
 
--- each atom at the next variable
-abbrev pub numbered : ℕ → List ℕ → List Place
-numbered n [] = []
-numbered n (a ∷ atoms) = record { atom = a; lit = Pos (suc n) } ∷ numbered (suc n) atoms
+-- an atom at the variable of its place among the atoms
+abbrev pub placed : List ℕ → ℕ → Place
+placed atoms a = record { atom = a; lit = Pos (place atoms a) }
 
 abbrev pub literals_over : List ℕ → List Literal → List Literal
 literals_over atoms lits = map (over_variables atoms) lits
@@ -27,11 +26,12 @@ items_over atoms items = map (λ item. (over_variables atoms item.0, item.1)) it
 abbrev pub level_over : List ℕ → Level → Level
 level_over atoms level = record { priority = level.priority; items = items_over atoms level.items }
 
-abbrev pub input_map : Ground → Symbols
-input_map P = record {
+-- with the places of these of the program's atoms, for a formula of so many variables
+abbrev pub input_map : Ground → List ℕ → ℕ → Symbols
+input_map P kept vars = record {
   form = Cnf;
-  vars = (completion P).vars;
-  atoms = numbered 0 P.atoms;
+  vars = vars;
+  atoms = map (placed P.atoms) kept;
   shows = map (show_over P.atoms) P.shows;
   levels = map (level_over P.atoms) P.levels;
 }

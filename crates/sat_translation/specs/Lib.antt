@@ -1,3 +1,4 @@
-pub mod Built
 pub mod InputMap
+pub mod Ranked
 pub mod Translated
+pub mod private

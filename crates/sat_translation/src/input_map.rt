@@ -1,12 +1,12 @@
-//! The map of a completion: the atoms, the names and the levels of the program over its variables. What the map keeps
-//! of the program stays where it is in memory: names are not copied, and shows are renamed in place.
+//! The map of a formula over a program's atoms: atoms, names and levels over its variables. What the map keeps of the
+//! program stays where it is in memory: names are not copied, and shows are renamed in place.
 
-ghost use Rattle.std.specs.Prelude.{◌≡◌, ◌≤◌, ◌-◌, ◌^◌, length, map, IfOk, OnOk};
+ghost use Rattle.std.specs.Prelude.{◌≡◌, ◌≤◌, ◌<◌, ◌-◌, ◌^◌, length, map, IfOk, OnOk};
 ghost use Rattle.std.specs.List.{AllByRecursion};
 ghost use Rattle.asp_base.specs.Literal.{atom_of};
-ghost use Rattle.sat_translation.specs.InputMap.{input_map, numbered, literals_over, items_over, show_over, level_over};
-ghost use Rattle.completion.specs.Completion.{completion};
-ghost use Rattle.ground_program.specs.Facts.{Among, LiteralsFit, FitsWeight, ShowFits, LevelFits};
+ghost use Rattle.asp_base.specs.Sets.{members, Within};
+ghost use Rattle.sat_translation.specs.InputMap.{input_map, placed, literals_over, items_over, show_over, level_over};
+ghost use Rattle.ground_program.specs.Facts.{Among, IsAtom, LiteralsFit, FitsWeight, ShowFits, LevelFits};
 ghost use Rattle.ground_program.specs.Size.{size};
 
 use asp_base::{Lit, Memory};
@@ -14,12 +14,19 @@ use ground_program::{Atoms, ItemList, Level, LevelList, LitList, Program, Show, 
 use std::alloc::Global;
 use symbol_map::{Form, Place, PlaceList, SymbolMap};
 
-/// The map of a program's completion, which has this number of variables. The program's rules are let go first.
-pub(crate) fn input_map(alloc: Global, program: Program, vars: u32) -> Result<SymbolMap, Memory>
-    requires vars { vars ≡ (completion program).vars }
+/// The map of a formula with this number of variables, of which the first are those of a program's atoms, with the
+/// places of these of the atoms. The program's rules are let go first.
+pub(crate) fn input_map(
+    alloc: Global,
+    program: Program,
+    kept: &Atoms,
+    vars: u32,
+) -> Result<SymbolMap, Memory>
+    requires atoms { length program.atoms ≤ vars }
     requires small { size program ≤ 2 ^ 24 }
-    requires room { vars ≤ 2 ^ 31 - 1 }
-    ensures { IfOk result (λ map. map ≡ input_map program) }
+    requires room { vars < 2 ^ 31 }
+    requires within { Within (members kept.now) (members program.atoms) }
+    ensures { IfOk result (λ map. map ≡ input_map program kept.now vars) }
 {
     let Program {
         atoms,
@@ -31,7 +38,7 @@ pub(crate) fn input_map(alloc: Global, program: Program, vars: u32) -> Result<Sy
     drop(rules);
     let shows = shows_over(alloc, &atoms, shows)?;
     let levels = levels_over(alloc, &atoms, levels)?;
-    let atoms = places_of(alloc, &atoms)?;
+    let atoms = places_of(alloc, &atoms, kept.as_slice())?;
     Ok(SymbolMap {
         form: Form::Cnf,
         vars,
@@ -41,13 +48,14 @@ pub(crate) fn input_map(alloc: Global, program: Program, vars: u32) -> Result<Sy
     })
 }
 
-/// Each atom at the next variable.
-fn places_of(alloc: Global, atoms: &Atoms) -> Result<PlaceList, Memory>
-    ensures { IfOk result (λ places. places ≡ numbered 0 atoms.now) }
+/// Each of these atoms at the variable of its place among all.
+fn places_of(alloc: Global, atoms: &Atoms, kept: &[u32]) -> Result<PlaceList, Memory>
+    requires { AllByRecursion (λ a. IsAtom a × Among atoms.now a) kept.now }
+    ensures { IfOk result (λ places. places ≡ map (placed atoms.now) kept.now) }
 {
-    let mut places = Vec::with_capacity(alloc, atoms.len())?;
-    for (index, atom) in atoms.as_slice().iter().enumerate() {
-        let lit = Lit::positive(index as u32 + 1);
+    let mut places = Vec::with_capacity(alloc, kept.len())?;
+    for atom in kept {
+        let lit = atoms.literal_over(Lit::positive(*atom));
         places.push(Place { atom: *atom, lit })?;
     }
     Ok(PlaceList::from_vec(places))

@@ -1,7 +1,6 @@
 //! The translation of programs to formulas: from a program to its formula and its map.
 #![tactic(auto)]
 
-mod built;
 mod input_map;
 pub mod laws;
 mod translation;

@@ -1,27 +1,31 @@
-//! From a program to its formula and its map.
+//! From a program to its formula and its map: the program is normalized, its completion made, and strong level rankings
+//! are added for its cyclic components. The map tells where the atoms of the given program are; those that normalizing
+//! adds have variables that it does not name.
 
-ghost use Rattle.std.specs.Prelude.{◌≡◌, ◌≤◌, ◌-◌, ◌^◌, true, IfOk, IfErr};
-ghost use Rattle.ground_program.specs.Size.{size};
-ghost use Rattle.clause_store.specs.Clauses.{Clauses};
-ghost use Rattle.completion.specs.Completion.{completion};
+ghost use Rattle.std.specs.Prelude.{◌≡◌, ◌≢◌, ◌≤◌, ◌<◌, ◌^◌, true, false, [], length, IfOk, IfErr, OnOk};
+ghost use Rattle.asp_base.specs.Sets.{members, Within};
 ghost use Rattle.ground_program.specs.Normal.{AreNormal};
-ghost use Rattle.completion.specs.Supported.{IsSmall};
+ghost use Rattle.ground_program.specs.Room.{room};
+ghost use Rattle.ground_program.specs.Size.{size};
+ghost use Rattle.clause_store.specs.Stored.{inputs_only, formula_of_store};
+ghost use Rattle.normalize.specs.Kept.{room_limit};
 ghost use Rattle.symbol_map.specs.FaithfulMap.{FaithfulMap};
 ghost use Rattle.symbol_map.specs.declared.map.Form.TheVariants as forms;
-ghost use Rattle.sat_translation.specs.Built.{is_built};
-ghost use Rattle.sat_translation.specs.Translated.{IsCnf, RefusedAs, size_limit};
+ghost use Rattle.sat_translation.specs.InputMap.{input_map};
+ghost use Rattle.sat_translation.specs.Ranked.{IsRanked};
+ghost use Rattle.sat_translation.specs.Translated.{IsCnf, FitsRoom, RefusedAs};
+ghost use Rattle.sat_translation.specs.private.Sizes.{FitsSize};
 
-use crate::built::is_built;
 use crate::input_map::input_map;
 use asp_base::Memory;
 use clause_store::{Formula, Store};
 use completion::complete;
-use ground_program::{Program, size};
+use components::components;
+use ground_program::{Atoms, Program};
+use level_ranking::rank;
+use normalize::{NormalRefusal, normal};
 use std::alloc::Global;
 use symbol_map::SymbolMap;
-
-/// A program that is translated has at most this size.
-const SIZE_LIMIT: u64 = 1 << 24;
 
 /// A formula, and the map of its variables.
 #[derive(Drop)]
@@ -33,9 +37,9 @@ pub struct Translation {
 /// Why a program is not translated.
 #[derive(Clone, Copy, Debug, PartialEq, Eq)]
 pub enum TranslateRefusal {
-    /// The program has a part that is not translated yet.
-    NotBuilt,
-    /// The program's size is this number, above 2^24.
+    /// The program has edges.
+    Edges,
+    /// The program's room is this number, above 2^24.
     TooLarge { number: u64 },
     /// Want of memory.
     Memory,
@@ -53,54 +57,85 @@ impl From<Memory> for TranslateRefusal {
 }
 
 /// The formula and the map of a program. Through the map the models of the formula are one to one the stable models of
-/// the program, with their names and costs. The formula is the completion, a CNF with at most as many variables as the
-/// program's size is, each of which stands in a clause.
+/// the program, with their names and costs. The formula is a CNF whose size is near linear in the program's room; for
+/// a program of normal rules it is the completion, with the rankings behind it.
 ///
-/// `NotBuilt` exactly where `is_built` is false, `TooLarge` exactly where it is true and the size is above 2^24.
+/// `Edges` exactly where the program has edges, `TooLarge` exactly where it has none and its room is above 2^24.
 pub fn translate(alloc: Global, program: Program) -> Result<Translation, TranslateRefusal>
     ensures faithful { IfOk result (λ t. FaithfulMap program t.formula t.map) }
-    ensures formula { IfOk result (λ t. t.formula ≡ completion program) }
     ensures cnf { IfOk result (λ t. IsCnf t.formula) }
-    ensures small { IfOk result (λ t. IsSmall program t.formula) }
     ensures form { IfOk result (λ t. t.map.form ≡ forms.Cnf) }
-    ensures built { IfOk result (λ _. (is_built program ≡ true) × (size program ≤ size_limit)) }
+    ensures small { IfOk result (λ t. FitsRoom program t.formula) }
+    ensures ranked { IfOk result (λ t. AreNormal program.rules → IsRanked program t.formula) }
+    ensures accepted { IfOk result (λ _. (program.edges ≡ []) × (room program ≤ room_limit)) }
     ensures refused { IfErr result (λ refusal. RefusedAs program refusal) }
 {
-    if !is_built(&program) {
-        return Err(TranslateRefusal::NotBuilt);
+    if has_edges(&program) {
+        return Err(TranslateRefusal::Edges);
     }
-    let number = size(&program);
-    if number > SIZE_LIMIT {
-        return Err(TranslateRefusal::TooLarge { number });
+    match normal(alloc, &program) {
+        Ok(made) => {
+            made.known();
+            Ok(translated(alloc, program, made)?)
+        }
+        Err(NormalRefusal::TooLarge { room }) => Err(TranslateRefusal::TooLarge { number: room }),
+        Err(NormalRefusal::Memory) => Err(TranslateRefusal::Memory),
     }
-    Ok(completed(alloc, program)?)
 }
 
-/// The completion of the program, with its map.
-fn completed(alloc: Global, program: Program) -> Result<Translation, Memory>
-    requires built { is_built program ≡ true }
-    requires small { size program ≤ 2 ^ 24 }
-    ensures faithful { IfOk result (λ t. FaithfulMap program t.formula t.map) }
-    ensures formula { IfOk result (λ t. t.formula ≡ completion program) }
-    ensures cnf { IfOk result (λ t. IsCnf t.formula) }
-    ensures small { IfOk result (λ t. IsSmall program t.formula) }
-    ensures form { IfOk result (λ t. t.map.form ≡ forms.Cnf) }
+/// Whether the program has edges.
+fn has_edges(program: &Program) -> bool
+    ensures some { result ≡ true → program.now.edges ≢ [] }
+    ensures none { result ≡ false → program.now.edges ≡ [] }
 {
-    let formula = formula_of(alloc, &program)?;
-    let map = input_map(alloc, program, formula.vars)?;
+    match program.edges.as_slice() {
+        [] => false,
+        _ => true,
+    }
+}
+
+/// The formula of a program of normal rules, with a map of the atoms of the program that it stands for.
+fn translated(alloc: Global, program: Program, made: Program) -> Result<Translation, Memory>
+    requires normal { AreNormal made.rules }
+    requires small { size made ≤ 2 ^ 24 }
+    requires within { Within (members program.atoms) (members made.atoms) }
+    ensures ranked { IfOk result (λ t. IsRanked made t.formula) }
+    ensures cnf { IfOk result (λ t. IsCnf t.formula) }
+    ensures size { IfOk result (λ t. FitsSize made t.formula) }
+    ensures map { IfOk result (λ t. t.map ≡ input_map made program.atoms t.formula.vars) }
+{
+    let Program { atoms, .. } = program;
+    let formula = formula_of(alloc, &made)?;
+    let map = input_map(alloc, made, &atoms, formula.vars)?;
     Ok(Translation { formula, map })
 }
 
-/// The completion of the program.
+/// The completion of a program of normal rules, with rankings.
 fn formula_of(alloc: Global, program: &Program) -> Result<Formula, Memory>
     requires normal { AreNormal program.now.rules }
     requires small { size program.now ≤ 2 ^ 24 }
-    ensures is { IfOk result (λ formula. formula ≡ completion program.now) }
+    ensures ranked { IfOk result (λ formula. IsRanked program.now formula) }
     ensures cnf { IfOk result (λ formula. IsCnf formula) }
-    ensures small { IfOk result (λ formula. IsSmall program.now formula) }
-    ensures room { IfOk result (λ formula. formula.vars ≤ 2 ^ 31 - 1) }
+    ensures size { IfOk result (λ formula. FitsSize program.now formula) }
 {
     let mut store = Store::new(alloc, program.atoms.len() as u32);
-    complete(alloc, program, &mut store)?;
+    add_ranked(alloc, program, &mut store)?;
     Ok(store.finish(1))
+}
+
+/// Adds the completion and the rankings to a store with a variable for each atom.
+fn add_ranked(alloc: Global, program: &Program, store: &mut Store) -> Result<(), Memory>
+    requires normal { AreNormal program.now.rules }
+    requires small { size program.now ≤ 2 ^ 24 }
+    requires inputs { store.old ≡ inputs_only (length program.now.atoms) }
+    ensures ranked { OnOk result (IsRanked program.now (formula_of_store store.new 1)) }
+    ensures cnf { OnOk result (IsCnf (formula_of_store store.new 1)) }
+    ensures size { OnOk result (FitsSize program.now (formula_of_store store.new 1)) }
+{
+    program.known();
+    let parts = components(alloc, program)?;
+    let bodies = complete(alloc, program, store)?;
+    rank(alloc, program, &parts, &bodies, store)?;
+    store.known();
+    Ok(())
 }

@@ -9,7 +9,7 @@ use Rattle.symbol_map.specs.Symbols.{Symbols}
 use Rattle.symbol_map.specs.Read.{map_of}
 use Rattle.asp_tools.specs.Calls.{makes}
 use Rattle.asp_tools.specs.SatAnswers.{OfGround, OfProgram}
-use Rattle.asp_tools.specs.SatInOrder.{IsCompletion}
+use Rattle.asp_tools.specs.SatInOrder.{HasRanked}
 use Rattle.asp_tools.specs.declared.command.Command.TheVariants.{Lp2sat}
 use Rattle.asp_tools.specs.declared.answer.Answer.{Answer}
 use Rattle.asp_tools.specs.declared.answer.Answer.TheVariants.{Refused, TooLarge}
@@ -36,9 +36,9 @@ HasOutputs answer made = length made ≡ (if makes Lp2sat answer then 2 else 0)
 -- the reply of `lp2sat` to a program
 abbrev pub GroundReply : Ground → Answer → List (List ℕ) → List ℕ → Type 0
 GroundReply P answer made said =
-    OfGround P answer made × IsCompletion (Ok P) made × HasOutputs answer made × (said ≡ [])
+    OfGround P answer made × HasRanked (Ok P) made × HasOutputs answer made × (said ≡ [])
 
 -- and to a text that is read so
 abbrev pub SatReply : Result Ground (Fault ReadKind) → Answer → List (List ℕ) → List ℕ → Type 0
 SatReply read answer made said =
-    OfProgram read answer made × IsCompletion read made × HasOutputs answer made × (said ≡ [])
+    OfProgram read answer made × HasRanked read made × HasOutputs answer made × (said ≡ [])

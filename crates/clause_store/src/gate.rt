@@ -1,0 +1,40 @@
+//! The clauses of a gate: one for each row of its table, over the literals of its inputs and its output.
+
+ghost use Rattle.std.specs.Prelude.{◌≡◌, ◌++◌, length, take, OnOk, OnErr};
+ghost use Rattle.gate_tables.specs.Rows.{table_clauses};
+
+use crate::clause_list::ClauseList;
+use asp_base::{Lit, Memory};
+use gate_tables::{Table, emit};
+
+/// Adds the clauses of a table. After `Memory` the list is unchanged.
+pub(crate) fn push_gate<const K: usize, const C: usize>(
+    hard: &mut ClauseList,
+    table: &Table<K, C>,
+    inputs: &[Lit; K],
+    output: Lit,
+) -> Result<(), Memory>
+    ensures ok { OnOk result (hard.new ≡ hard.old ++ table_clauses table.now inputs.now output) }
+    ensures err { OnErr result (hard.new ≡ hard.old) }
+{
+    let count = hard.len();
+    let pushed = push_rows(hard, table, inputs, output);
+    if pushed.is_err() {
+        hard.truncate(count);
+    }
+    pushed
+}
+
+fn push_rows<const K: usize, const C: usize>(
+    hard: &mut ClauseList,
+    table: &Table<K, C>,
+    inputs: &[Lit; K],
+    output: Lit,
+) -> Result<(), Memory>
+    ensures ok { OnOk result (hard.new ≡ hard.old ++ table_clauses table.now inputs.now output) }
+    // Some of the clauses may stand behind the old ones.
+    ensures err { OnErr result (take (length hard.old) hard.new ≡ hard.old) }
+{
+    emit!(hard, table, inputs, output);
+    Ok(())
+}

@@ -1,0 +1,8 @@
+pub mod AddingLaws
+pub mod AtomLaws
+pub mod ComponentLaws
+pub mod CyclicLaws
+pub mod LinkLaws
+pub mod MemberLaws
+mod Rows
+pub mod SumLaws

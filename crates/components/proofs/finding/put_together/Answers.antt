@@ -1,0 +1,14 @@
+-- The numbers are keys below the count and one.
+use Rattle.std.proofs.Common.{◌≡◌, ℕ, ◌+◌, ◌<◌, List, ◌∙◌, ap, length, get_or, arith, subst, sym}
+use Rattle.graph_parts.specs.Groups.{pair_at}
+use Rattle.graph_parts.proofs.KeyLaws.{keys-below}
+use Rattle.components.specs.private.Kept.{numbered}
+use Rattle.components.proofs.finding.put_together.Goals as goal
+
+pub grouped-requires-clause-keys : goal.grouped-requires-clause-keys
+grouped-requires-clause-keys c =
+    let are : c.as_slice-2.result.now ≡ numbered c.as_slice.result.now c.args.parts.numbers = c.as_slice-2.ensures.value ∙ c.in_ok-pairs.ensures in
+    let sized : length c.as_slice.result.now ≡ length c.args.parts.numbers = ap length c.as_slice.ensures.is ∙ sym c.requires.sized in
+    let count = c.count.ensures in
+    subst (λ (pairs : List (ℕ × ℕ)). (j : ℕ) → j < length pairs → (pair_at pairs j).0 < c.count.result + 1) (sym are)
+    (keys-below (λ j. get_or c.args.parts.numbers j 0) (λ j. get_or c.as_slice.result.now j 0) (length c.as_slice.result.now) (c.count.result + 1) (λ u below. let most = c.requires.most u (omega arith) in omega arith))

@@ -1,0 +1,4 @@
+pub mod Components
+pub mod Divided
+pub mod Parts
+pub mod private

@@ -1,0 +1,175 @@
+//! The components of a program: its links, the parts of their graph among the atoms' nodes by one walk with stacks of
+//! its own (`graph_parts`), sums for the measures, and the atoms of each component by a counting sort. All of it is
+//! linear in the program.
+
+ghost use Rattle.std.specs.Prelude.{ℕ, min, ◌≡◌, ◌+◌, ◌-◌, ◌^◌, ◌<◌, ◌≤◌, length, map, slice_index, IfOk, EachIndex};
+ghost use Rattle.std.specs.List.{AllByRecursion};
+ghost use Rattle.ground_program.specs.Facts.{Among, RuleFits};
+ghost use Rattle.ground_program.specs.Tangle.{AreCyclicComponents};
+ghost use Rattle.ground_program.specs.declared.program.Rule.{Rule};
+ghost use Rattle.components.specs.Components.{AreComponents};
+ghost use Rattle.components.specs.Divided.{cyclic_parts, members_of};
+ghost use Rattle.components.specs.Parts.{ArePartsOf, AreSums};
+ghost use Rattle.components.specs.private.Adding.{added};
+ghost use Rattle.components.specs.private.Kept.{numbered};
+ghost use Rattle.components.specs.private.Links.{links_of_rules};
+
+use crate::adding::{Sums, added};
+use crate::costs::{odd_ones, ones, terms};
+use crate::links::links_of;
+use crate::parts::Parts;
+use asp_base::Memory;
+use graph_parts::{Parts as GraphParts, grouped, parts_among};
+use ground_program::{Atoms, Program, Rule};
+use std::alloc::Global;
+
+/// More nodes than this are not numbered.
+const MOST_NODES: usize = 0xffff_ffff;
+
+/// The components of a program's positive dependencies: an atom depends on each atom that stands positive in the body
+/// of a rule with it in the head, whatever the kinds of head and body. Their numbers run from 1 on, and a component
+/// depends on lower ones and itself alone. In time linear in the program's size, where the numbers of the atoms lie
+/// close together. `Memory` where there is none left, and where atoms and rules together are 2^32 - 1 or more.
+pub fn components(alloc: Global, program: &Program) -> Result<Parts, Memory>
+    ensures parts { IfOk result (λ parts. ArePartsOf program.now parts) }
+    ensures cyclic { IfOk result (λ parts. AreCyclicComponents program.now.rules (cyclic_parts parts)) }
+{
+    program.known();
+    found(alloc, program)
+}
+
+fn found(alloc: Global, program: &Program) -> Result<Parts, Memory>
+    ensures { IfOk result (λ parts. ArePartsOf program.now parts) }
+{
+    program.known();
+    let rules = program.rules.as_slice();
+    if rules.len() >= MOST_NODES - program.atoms.len() {
+        return Err(Memory);
+    }
+    let edges = links_of(alloc, &program.atoms, program.atoms.len() as u32, rules)?;
+    let parts = places(alloc, program, edges.as_slice())?;
+    let sums = sums(alloc, &program.atoms, edges.as_slice(), rules, &parts)?;
+    put_together(alloc, &program.atoms, parts, sums)
+}
+
+/// The components of the atoms' places, by the links of the program.
+fn places(alloc: Global, program: &Program, edges: &[(u32, u32)]) -> Result<GraphParts, Memory>
+    requires edges { edges.now ≡ links_of_rules program.now.atoms (length program.now.atoms) program.now.rules }
+    requires few { length program.now.atoms + length program.now.rules < 2 ^ 32 - 1 }
+    ensures sized { IfOk result (λ parts. length parts.numbers ≡ length program.now.atoms) }
+    ensures most { IfOk result (λ parts. EachIndex parts.numbers (λ u. slice_index parts.numbers u ≤ parts.count)) }
+    ensures components { IfOk result (λ parts. AreComponents program.now parts.numbers parts.count parts.cyclic) }
+{
+    program.known();
+    let first = program.atoms.len() as u32;
+    let rules = program.rules.as_slice().len() as u32;
+    parts_among(alloc, first + rules, first, edges)
+}
+
+/// What is added up for each component.
+fn sums(
+    alloc: Global,
+    atoms: &Atoms,
+    edges: &[(u32, u32)],
+    rules: &[Rule],
+    parts: &GraphParts,
+) -> Result<Sums, Memory>
+    requires fit { AllByRecursion (RuleFits (Among atoms.now)) rules.now }
+    requires few { length atoms.now + length rules.now < 2 ^ 32 }
+    requires edges { edges.now ≡ links_of_rules atoms.now (length atoms.now) rules.now }
+    requires sized { length parts.now.numbers ≡ length atoms.now }
+    requires most { EachIndex parts.now.numbers (λ u. slice_index parts.now.numbers u ≤ parts.now.count) }
+    ensures { IfOk result (λ sums.
+        AreSums rules.now (λ i. members_of i atoms.now parts.now.numbers) parts.now.count
+        sums.weights.items sums.terms.items sums.odd.items) }
+{
+    let costs = ones(alloc, rules)?;
+    let weights = added_over(alloc, atoms, edges, rules, parts, costs.as_slice(), 1)?;
+    let costs = terms(alloc, rules)?;
+    let terms = added_over(alloc, atoms, edges, rules, parts, costs.as_slice(), 0)?;
+    let costs = odd_ones(alloc, rules)?;
+    let odd = added_over(alloc, atoms, edges, rules, parts, costs.as_slice(), 0)?;
+    Ok(Sums {
+        weights,
+        terms,
+        odd,
+    })
+}
+
+/// For each component the costs of the rules with a head in it, and so much for each positive literal of theirs over
+/// it.
+fn added_over(
+    alloc: Global,
+    atoms: &Atoms,
+    edges: &[(u32, u32)],
+    rules: &[Rule],
+    parts: &GraphParts,
+    costs: &[u64],
+    each: u64,
+) -> Result<Vec<u64>, Memory>
+    requires fit { AllByRecursion (RuleFits (Among atoms.now)) rules.now }
+    requires few { length atoms.now + length rules.now < 2 ^ 32 }
+    requires edges { edges.now ≡ links_of_rules atoms.now (length atoms.now) rules.now }
+    requires sized { length parts.now.numbers ≡ length atoms.now }
+    requires most { EachIndex parts.now.numbers (λ u. slice_index parts.now.numbers u ≤ parts.now.count) }
+    requires costs { length costs.now ≡ length rules.now }
+    ensures sized { IfOk result (λ sums. length sums.items ≡ parts.now.count + 1) }
+    ensures sums { IfOk result (λ sums. (cost : Rule → ℕ) → costs.now ≡ map cost rules.now
+        → (i : ℕ) → i ≤ parts.now.count → slice_index sums.items i
+        ≡ min (added (members_of i atoms.now parts.now.numbers) cost each rules.now) (2 ^ 63)) }
+{
+    added(alloc, edges, parts.numbers(), parts.count(), costs, each)
+}
+
+/// Components of atoms, from those of their places.
+fn put_together(
+    alloc: Global,
+    atoms: &Atoms,
+    parts: GraphParts,
+    sums: Sums,
+) -> Result<Parts, Memory>
+    requires few { length atoms.now ≤ 2 ^ 30 }
+    requires sized { length parts.numbers ≡ length atoms.now }
+    requires most { EachIndex parts.numbers (λ u. slice_index parts.numbers u ≤ parts.count) }
+    requires weights { length sums.weights.items ≡ parts.count + 1 }
+    requires terms { length sums.terms.items ≡ parts.count + 1 }
+    requires odd { length sums.odd.items ≡ parts.count + 1 }
+    ensures { IfOk result (λ all. all ≡ record {
+      atoms = atoms.now;
+      numbers = parts.numbers;
+      count = parts.count;
+      cyclic = parts.cyclic;
+      weights = sums.weights.items;
+      terms = sums.terms.items;
+      odd = sums.odd.items;
+    }) }
+{
+    let pairs = behind_numbers(alloc, atoms.as_slice(), &parts)?;
+    let groups = grouped(alloc, pairs.as_slice(), parts.count() as usize + 1)?;
+    let copy = copied(alloc, atoms)?;
+    Ok(Parts::new(copy, parts, groups, sums))
+}
+
+/// The same atoms.
+fn copied(alloc: Global, atoms: &Atoms) -> Result<Atoms, Memory>
+    ensures { IfOk result (λ copy. copy ≡ atoms.now) }
+{
+    Atoms::of_vec(alloc, atoms.as_slice().to_vec(alloc)?)
+}
+
+/// Each atom behind its number.
+fn behind_numbers(
+    alloc: Global,
+    atoms: &[u32],
+    parts: &GraphParts,
+) -> Result<Vec<(u32, u32)>, Memory>
+    requires few { length atoms.now ≤ 2 ^ 30 }
+    requires sized { length parts.now.numbers ≡ length atoms.now }
+    ensures { IfOk result (λ pairs. pairs.items ≡ numbered atoms.now parts.now.numbers) }
+{
+    let mut pairs = Vec::new(alloc);
+    for (place, atom) in atoms.iter().enumerate() {
+        pairs.push((parts.number(place as u32), *atom))?;
+    }
+    Ok(pairs)
+}

@@ -1,0 +1,5 @@
+pub mod DigitGateLaws
+pub mod DigitLaws
+mod Loops
+mod Rows
+pub mod Variables

@@ -1,0 +1,2 @@
+pub mod DigitGates
+pub mod Digits

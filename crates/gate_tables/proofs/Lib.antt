@@ -1,0 +1,3 @@
+pub mod RowLaws
+mod Rows
+pub mod TableLaws

@@ -1,0 +1,12 @@
+pub mod Closing
+pub mod CycleLaws
+pub mod DividedLaws
+pub mod EdgeLaws
+pub mod Grouping
+pub mod Held
+pub mod KeyLaws
+pub mod Lists
+pub mod NumberLaws
+pub mod RankLaws
+pub mod Rounds
+pub mod Ways

@@ -1,0 +1,5 @@
+pub mod Components
+pub mod Encoding
+pub mod Ranked
+pub mod Ranking
+pub mod private

@@ -1,0 +1,193 @@
+//! What the rankings of a program are made from: its rules by their heads, and for each rule its atoms in a component,
+//! each once. A rule is looked up when its head's turn comes, so that no more than one atom's rules are held. Linear in
+//! the rules, but for the hashing of the atoms of one body.
+
+ghost use Rattle.std.specs.Prelude.{◌≡◌, ◌+◌, ◌-◌, ◌<◌, ◌≤◌, ◌^◌, ◌++◌, ◌∷◌, [], true, cond, map, length, slice_index, EachIndex, MatchOption, IfOk, OnOk};
+ghost use Rattle.std.specs.List.{AllByRecursion};
+ghost use Rattle.asp_base.specs.Literal.{atom_of};
+ghost use Rattle.asp_base.specs.Sets.{members};
+ghost use Rattle.rising_numbers.specs.Rising.{place};
+ghost use Rattle.ground_program.specs.Facts.{Among, HeadFits, RuleFits};
+ghost use Rattle.completion.specs.Completion.{literals_of};
+ghost use Rattle.level_ranking.specs.Encoding.{once, positive_in};
+ghost use Rattle.level_ranking.specs.Components.{atoms_of_part, component, part_of};
+ghost use Rattle.level_ranking.specs.private.Ready.{IsReady};
+ghost use Rattle.level_ranking.specs.private.Sources.{AreNumbered, head_pairs, heads_from, placed, rows_listed, with_once};
+
+use crate::rules::RankedRule;
+use asp_base::{Lit, Memory};
+use completion::Bodies;
+use components::Parts;
+use graph_parts::Groups;
+use ground_program::{Atoms, Body, Head, LitList, Program, Rule};
+use indexmap::IndexSet;
+use std::alloc::Global;
+
+/// The place of an atom among the atoms, from 0.
+pub(crate) fn index_among(atoms: &Atoms, atom: u32) -> u32
+    requires { Among atoms.now atom }
+    ensures is { result ≡ place atoms.now atom - 1 }
+    ensures within { result < length atoms.now }
+{
+    let Some(place) = atoms.place(atom) else {
+        unreachable!()
+    };
+    place - 1
+}
+
+/// Adds the place of a head, from 0, with that of its rule.
+fn push_head(
+    pairs: &mut Vec<(u32, u32)>,
+    atoms: &Atoms,
+    head: &Head,
+    place: u32,
+) -> Result<(), Memory>
+    requires { HeadFits (Among atoms.now) head.now }
+    ensures { OnOk result (pairs.new.items ≡ pairs.old.items ++ head_pairs atoms.now head.now place) }
+{
+    if let Head::One(atom) = head {
+        pairs.push((index_among(atoms, *atom), place))?;
+    }
+    Ok(())
+}
+
+/// The places of the heads, from 0, with those of their rules.
+pub(crate) fn heads(alloc: Global, atoms: &Atoms, rules: &[Rule]) -> Result<Vec<(u32, u32)>, Memory>
+    requires fit { AllByRecursion (RuleFits (Among atoms.now)) rules.now }
+    requires few { length rules.now < 2 ^ 32 }
+    ensures { IfOk result (λ pairs. pairs.items ≡ heads_from atoms.now 0 rules.now) }
+{
+    let mut pairs = Vec::new(alloc);
+    for (i, rule) in rules.iter().enumerate() {
+        push_head(&mut pairs, atoms, &rule.head, i as u32)?;
+    }
+    Ok(pairs)
+}
+
+/// The literals of a body of literals; none of a body with weights.
+fn literals(body: &Body) -> &[Lit]
+    ensures { result.now ≡ literals_of body.now }
+{
+    match body {
+        Body::All(lits) => lits.as_slice(),
+        Body::Sum { .. } => &[],
+    }
+}
+
+/// The atom of a positive literal, where it is in the component.
+fn atom_inside(parts: &Parts, part: u64, lit: Lit) -> Option<u32>
+    requires among { members parts.now.atoms (atom_of lit) ≡ true }
+    ensures { let S = members (atoms_of_part (part_of parts.now) part parts.now.atoms) in
+        MatchOption result (positive_in S (lit ∷ []) ≡ [])
+        (λ a. (a ≡ atom_of lit) × (positive_in S (lit ∷ []) ≡ a ∷ [])) }
+{
+    if lit.is_positive() {
+        let Some(number) = parts.of(lit.var()) else {
+            unreachable!()
+        };
+        if number == part {
+            return Some(lit.var());
+        }
+    }
+    None
+}
+
+/// Adds the place of an atom, from 0, where the atom was not seen.
+fn push_once(
+    seen: &mut IndexSet<u32>,
+    places: &mut Vec<usize>,
+    atoms: &Atoms,
+    atom: u32,
+) -> Result<(), Memory>
+    requires { Among atoms.now atom }
+    ensures seen { OnOk result (seen.new.keys ≡ with_once atom seen.old.keys) }
+    ensures places { OnOk result (places.old.items ≡ map (λ b. place atoms.now b - 1) seen.old.keys
+        → places.new.items ≡ map (λ b. place atoms.now b - 1) seen.new.keys) }
+{
+    if seen.insert(atom)? {
+        places.push(atoms.index_of(atom))?;
+    }
+    Ok(())
+}
+
+/// The places, from 0, of the atoms of the positive literals in the component, each once.
+fn places_inside(
+    alloc: Global,
+    atoms: &Atoms,
+    parts: &Parts,
+    part: u64,
+    lits: &[Lit],
+) -> Result<Vec<usize>, Memory>
+    requires same { parts.now.atoms ≡ atoms.now }
+    requires among { AllByRecursion (λ l. Among atoms.now (atom_of l)) lits.now }
+    ensures { IfOk result (λ places. let S = members (atoms_of_part (part_of parts.now) part atoms.now) in
+        places.items ≡ map (λ b. place atoms.now b - 1) (once (positive_in S lits.now))) }
+{
+    let mut seen = IndexSet::new(alloc);
+    let mut places = Vec::new(alloc);
+    for lit in lits {
+        if let Some(atom) = atom_inside(parts, part, *lit) {
+            push_once(&mut seen, &mut places, atoms, atom)?;
+        }
+    }
+    Ok(places)
+}
+
+/// What the rankings of a program are made from: its components, the literals of its rules' bodies, the digits of its
+/// atoms, and the places of its rules by those of their heads.
+#[derive(Drop)]
+pub(crate) struct Sources<'a> {
+    pub program: &'a Program,
+    pub parts: &'a Parts,
+    pub bodies: &'a Bodies,
+    pub numbers: &'a [LitList],
+    pub heads: &'a Groups,
+}
+
+/// The rule at a place, as a rule of an atom of the component.
+fn ranked_rule(
+    alloc: Global,
+    sources: &Sources<'_>,
+    part: u64,
+    place: u32,
+) -> Result<RankedRule, Memory>
+    requires ready { IsReady sources.now }
+    requires within { place < length sources.now.program.now.rules }
+    ensures { IfOk result (λ row. let P = sources.now.program.now in
+        let S = component P (part_of sources.now.parts.now) part in
+        row ∷ [] ≡ map (placed P.atoms) (rows_listed S P.rules sources.now.bodies.now (place ∷ []))) }
+{
+    let program = sources.program;
+    program.known();
+    let rule = &program.rules.as_slice()[place as usize];
+    let inside = places_inside(
+        alloc,
+        &program.atoms,
+        sources.parts,
+        part,
+        literals(&rule.body),
+    )?;
+    let body = sources.bodies.literal(u64::from(place) + 1);
+    Ok(RankedRule { body, inside })
+}
+
+/// The rules at these places, as rules of an atom of the component.
+pub(crate) fn ranked_rules(
+    alloc: Global,
+    sources: &Sources<'_>,
+    part: u64,
+    places: &[u32],
+) -> Result<Vec<RankedRule>, Memory>
+    requires ready { IsReady sources.now }
+    requires within { EachIndex places.now (λ j. slice_index places.now j < length sources.now.program.now.rules) }
+    ensures { IfOk result (λ rows. let P = sources.now.program.now in
+        let S = component P (part_of sources.now.parts.now) part in
+        rows.items ≡ map (placed P.atoms) (rows_listed S P.rules sources.now.bodies.now places.now)) }
+{
+    let mut rows = Vec::new(alloc);
+    for place in places {
+        let row = ranked_rule(alloc, sources, part, *place)?;
+        rows.push(row)?;
+    }
+    Ok(rows)
+}

@@ -1,0 +1,90 @@
+//! CNF texts: their first faults, and what is written of their formulas.
+
+use crate::aspif_texts::are_same;
+use asp_base::Memory;
+use clause_store::Formula;
+use dimacs_format::{FormulaKind, FormulaRefusal, read, write_cnf};
+use std::alloc::Global;
+use std::process::Abort;
+use std::test::Fail;
+
+/// The text has this fault at this line.
+fn expect_fault(rt: &impl Abort, alloc: Global, text: &str, line: u64, kind: FormulaKind) {
+    match read(alloc, text.as_bytes()) {
+        Ok(_) => assert!(rt; false, "{text:?} is read"),
+        Err(refusal) => assert_eq!(rt; refusal, FormulaRefusal::At { line, kind }, "{text:?}"),
+    }
+}
+
+#[test]
+fn finds_faults(rt: HostRuntime) {
+    let rows = [
+        ("", 1, FormulaKind::BadHeader),
+        ("c x\n\n", 2, FormulaKind::BadHeader),
+        ("\nc\np wcnf 1 1 2\n", 3, FormulaKind::BadHeader),
+        ("p cnf 1\n", 1, FormulaKind::BadHeader),
+        ("p cnf 1 0 x\n", 1, FormulaKind::BadHeader),
+        ("p cnf 2147483648 0\n", 1, FormulaKind::BadHeader),
+        ("p cnf -1 0\n", 1, FormulaKind::BadHeader),
+        ("p cnf 1 -1\n", 1, FormulaKind::BadHeader),
+        ("p cnf 1 1\nx 0\n", 2, FormulaKind::BadNumber),
+        (
+            "p cnf 1 1\n9223372036854775808 0\n",
+            2,
+            FormulaKind::BadNumber,
+        ),
+        ("p cnf 1 1\n2 0\n", 2, FormulaKind::LiteralOutOfRange),
+        ("p cnf 3 1\n1\n-4\n", 3, FormulaKind::LiteralOutOfRange),
+        ("p cnf 1 1\n1 0\nx\n", 3, FormulaKind::WrongCount),
+        ("p cnf 1 0\n0\n", 2, FormulaKind::WrongCount),
+        ("p cnf 1 2\n1 0\n", 2, FormulaKind::WrongCount),
+        ("p cnf 1 2\n1 0\n\nc end", 4, FormulaKind::WrongCount),
+        ("p cnf 1 1\n1\n", 2, FormulaKind::NoEnd),
+        ("p cnf 1 1\n\n1\nc\n", 4, FormulaKind::NoEnd),
+    ];
+    let alloc = rt.alloc();
+    for (text, line, kind) in rows {
+        expect_fault(&rt, alloc, text, line, kind);
+    }
+}
+
+/// Writes a formula of hard clauses alone.
+fn put(formula: &Formula, out: &mut Vec<u8>) -> Result<(), Memory> {
+    match (
+        formula.edges.as_slice(),
+        formula.soft.as_slice(),
+        formula.top,
+    ) {
+        ([], [], 1) => write_cnf(formula, out),
+        _ => Err(Memory),
+    }
+}
+
+/// Of the text's formula just this is written, behind what is there.
+fn expect_written(rt: &impl Abort, alloc: Global, text: &str, written: &str) -> Result<(), Fail> {
+    let formula = read(alloc, text.as_bytes())?;
+    let mut out = Vec::from_slice(alloc, b"x")?;
+    put(&formula, &mut out)?;
+    let wanted = format!(in alloc; "x{written}")?;
+    assert!(rt;
+        are_same(out.as_slice(), wanted.as_str().as_bytes()),
+        "{text:?}"
+    );
+    Ok(())
+}
+
+#[test]
+fn reads_and_writes_formulas(rt: HostRuntime) -> Result<(), Fail> {
+    let rows = [
+        ("p cnf 0 0", "p cnf 0 0\n"),
+        (
+            "c a\n\np  cnf 3 4\r\n1 -2\nc 9 0\n 0 -03 0\t0\n2 2 0\n\n",
+            "p cnf 3 4\n1 -2 0\n-3 0\n0\n2 2 0\n",
+        ),
+    ];
+    let alloc = rt.alloc();
+    for (text, written) in rows {
+        expect_written(&rt, alloc, text, written)?;
+    }
+    Ok(())
+}
