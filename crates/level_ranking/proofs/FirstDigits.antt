@@ -1,7 +1,7 @@
 -- The digits of all atoms come first behind the completion's variables, and without cyclic components there are none.
-use Rattle.std.proofs.Common.{◌≡◌, refl, ◌∙◌, ap, ℕ, ◌+◌, ◌<◌, ◌==◌, false, true, List, [], ◌∷◌, ◌++◌, filter, arith, subst}
+use Rattle.std.proofs.Common.{◌≡◌, refl, sym, ◌∙◌, ap, ℕ, ◌+◌, ◌<◌, ◌≤◌, ◌==◌, Bool, false, true, ⊎_elim, List, [], ◌∷◌, ◌++◌, filter, arith, subst}
 use Rattle.std.specs.List.{sum_by}
-use Rattle.std.proofs.lemmas.Bool.{eq-eqb, ne_eqb, cond-true, cond-false}
+use Rattle.std.proofs.lemmas.Bool.{eq-eqb, ne_eqb, cond-true, cond-false, cases_lt, true≢false}
 use Rattle.std.proofs.lemmas.List.Sums.{sum_by-cons}
 use Rattle.asp_base.specs.Sets.{members}
 use Rattle.asp_base.specs.Walks.{Reaches}
@@ -16,6 +16,7 @@ use Rattle.components.specs.Divided.{Divided, cyclic_numbers}
 use Rattle.components.specs.Parts.{ArePartsOf}
 use Rattle.completion.specs.Completion.{completed}
 use Rattle.digit_gates.specs.DigitGates.{variables_from}
+use Rattle.level_ranking.specs.Components.{part_of}
 use Rattle.level_ranking.specs.Encoding.{after_digits, digits_of, width_of, with_rankings}
 use Rattle.level_ranking.specs.Ranked.{DigitsComeFirst}
 use Rattle.level_ranking.proofs.RankedStore.{rises-filter}
@@ -57,3 +58,16 @@ none-cyclic P d are tight = no-members (cyclic_numbers d) (λ c member.
     let found = from_cyclic d c member in
     let one = are.components.each c found.0 found.1 in
     tight one.0 ((are.components.cycles one.0 one.1).0 (ap (is_cyclic_at d.cyclic) one.2 ∙ found.2)))
+
+-- where no number is that of a cyclic component
+pub without_cyclic : (P : Ground) (d : Divided) → ((i : ℕ) → 1 ≤ i → i ≤ d.count → is_cyclic_at d.cyclic i ≡ false)
+    → with_rankings P (part_of d) (cyclic_numbers d) ≡ completed P
+without_cyclic P d none =
+    ap (with_rankings P (part_of d)) (no-members (cyclic_numbers d) (λ c member.
+    let found = from_cyclic d c member in
+    true≢false (sym found.2 ∙ none c found.0 found.1))) ∙ no-rankings P (part_of d)
+
+-- one more number is not
+pub none-more : (f : ℕ → Bool) (n : ℕ) → ((i : ℕ) → 1 ≤ i → i ≤ n → f i ≡ false) → f (n + 1) ≡ false
+    → (i : ℕ) → 1 ≤ i → i ≤ n + 1 → f i ≡ false
+none-more f n h e i low high = ⊎_elim (λ k. h i low (omega arith)) (λ k. ap f (let q : i ≡ n + 1 = omega arith in q) ∙ e) (cases_lt i (n + 1))

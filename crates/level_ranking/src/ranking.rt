@@ -4,10 +4,11 @@
 //! component's atoms, so that the clauses are n log n in the program's size. (T. Janhunen, I. Niemelä, Compact
 //! translations of non-disjunctive answer set programs to propositional clauses, 2011.)
 
-ghost use Rattle.std.specs.Prelude.{ℕ, ◌≡◌, ◌+◌, ◌<◌, ◌≤◌, ◌^◌, true, [], length, OnOk};
+ghost use Rattle.std.specs.Prelude.{ℕ, ◌≡◌, ◌+◌, ◌<◌, ◌≤◌, ◌^◌, true, false, [], length, OnOk};
 ghost use Rattle.asp_base.specs.Sets.{members};
 ghost use Rattle.asp_base.specs.Walks.{Reaches};
 ghost use Rattle.rising_numbers.specs.Rising.{place};
+ghost use Rattle.graph_parts.specs.Divided.{is_cyclic_at};
 ghost use Rattle.ground_program.specs.Dependencies.{depends};
 ghost use Rattle.ground_program.specs.Normal.{AreNormal};
 ghost use Rattle.ground_program.specs.Size.{size};
@@ -112,8 +113,8 @@ fn add_components(alloc: Global, sources: &Sources<'_>, store: &mut Store) -> Re
     Ok(())
 }
 
-/// Adds the clauses of the rankings.
-fn add_rankings(
+/// Adds the clauses of the rankings, by lists for all atoms.
+fn add_listed(
     alloc: Global,
     program: &Program,
     parts: &Parts,
@@ -140,6 +141,40 @@ fn add_rankings(
         heads: &rules_by_head,
     };
     add_components(alloc, &sources, store)?;
+    Ok(())
+}
+
+/// Whether a component is cyclic.
+fn has_cyclic(parts: &Parts) -> bool
+    ensures { result ≡ false → (i : ℕ) → 1 ≤ i → i ≤ parts.now.count → is_cyclic_at parts.now.cyclic i ≡ false }
+{
+    for before in 0..parts.count() {
+        if parts.is_cyclic(before + 1) {
+            return true;
+        }
+    }
+    false
+}
+
+/// Adds the clauses of the rankings. Where no component is cyclic there are none, and no list is made.
+fn add_rankings(
+    alloc: Global,
+    program: &Program,
+    parts: &Parts,
+    bodies: &Bodies,
+    store: &mut Store,
+) -> Result<(), Memory>
+    requires normal { AreNormal program.now.rules }
+    requires small { size program.now ≤ 2 ^ 24 }
+    requires parts { ArePartsOf program.now parts.now }
+    requires bodies { bodies.now ≡ body_literals program.now }
+    requires store { store.old ≡ completed program.now }
+    ensures { OnOk result (store.new ≡ with_rankings program.now (part_of parts.now) (cyclic_numbers parts.now)) }
+{
+    if !has_cyclic(parts) {
+        return Ok(());
+    }
+    add_listed(alloc, program, parts, bodies, store)?;
     Ok(())
 }
 

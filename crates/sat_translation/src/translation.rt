@@ -94,7 +94,8 @@ fn has_edges(program: &Program) -> bool
     }
 }
 
-/// The formula of a program of normal rules, with a map of the atoms of the program that it stands for.
+/// The formula of a program of normal rules, with a map of the atoms of the program that it stands for, of which the
+/// rest is let go first.
 fn translated(alloc: Global, program: Program, made: Program) -> Result<Translation, Memory>
     requires normal { AreNormal made.rules }
     requires small { size made ≤ 2 ^ 24 }
@@ -104,7 +105,16 @@ fn translated(alloc: Global, program: Program, made: Program) -> Result<Translat
     ensures size { IfOk result (λ t. FitsSize made t.formula) }
     ensures map { IfOk result (λ t. t.map ≡ input_map made program.atoms t.formula.vars) }
 {
-    let Program { atoms, .. } = program;
+    let Program {
+        atoms,
+        rules,
+        levels,
+        shows,
+        ..
+    } = program;
+    drop(rules);
+    drop(levels);
+    drop(shows);
     let formula = formula_of(alloc, &made)?;
     let map = input_map(alloc, made, &atoms, formula.vars)?;
     Ok(Translation { formula, map })
