@@ -7,6 +7,9 @@ use Rattle.job_shell.specs.declared.ended.Ended.TheVariants.{Answered, TooLong, 
 use Rattle.job_shell.proofs.HeldLaws.{held-then}
 use Rattle.job_shell.proofs.PlaceLaws.{at-then}
 use Rattle.job_shell.specs.Ran as shell
+use Rattle.acyc_translation.specs.declared.encoding.Encoding.{Encoding}
+use Rattle.asp_tools.specs.AcycAnswers.{AcycAnswers}
+use Rattle.asp_tools.specs.AcycInOrder.{AcycInOrder}
 use Rattle.asp_tools.specs.Calls.{promise_of}
 use Rattle.asp_tools.specs.CallsInOrder.{promise_in_order}
 use Rattle.asp_tools.specs.SatAnswers.{SatAnswers}
@@ -17,17 +20,25 @@ use Rattle.asp_tools.specs.private.TooLong.{is_long, is_too_long}
 use Rattle.asp_tools.proofs.OutcomeLaws.{exactly-outcome}
 use Rattle.asp_tools.specs.declared.outcome.Outcome.{Outcome}
 use Rattle.asp_tools.specs.declared.answer.Answer.{Answer}
+use Rattle.asp_tools.specs.declared.command.AcycFormat.{AcycFormat}
 use Rattle.asp_tools.specs.declared.command.Command.{Command}
-use Rattle.asp_tools.specs.declared.command.Command.TheVariants.{Lp2normal, Lp2sat, Back, Check}
+use Rattle.asp_tools.specs.declared.command.Command.TheVariants.{Lp2normal, Lp2acyc, Lp2sat, Back, Check}
+use Rattle.asp_tools.specs.declared.command.FormulaFormat.{FormulaFormat}
 
-sat-calls : (texts : List (List ℕ)) (answer : Answer) (made : List (List ℕ)) (said : List ℕ) → SatInOrder texts answer made said → SatAnswers texts answer made said
-sat-calls [] answer made said h = h
-sat-calls (text ∷ []) answer made said h = h.0
-sat-calls (text ∷ next ∷ texts) answer made said h = h
+sat-calls : (format : FormulaFormat) (texts : List (List ℕ)) (answer : Answer) (made : List (List ℕ)) (said : List ℕ) → SatInOrder format texts answer made said → SatAnswers format texts answer made said
+sat-calls format [] answer made said h = h
+sat-calls format (text ∷ []) answer made said h = h.0
+sat-calls format (text ∷ next ∷ texts) answer made said h = h
+
+acyc-calls : (encoding : Encoding) (format : AcycFormat) (texts : List (List ℕ)) (answer : Answer) (made : List (List ℕ)) (said : List ℕ) → AcycInOrder encoding format texts answer made said → AcycAnswers encoding format texts answer made said
+acyc-calls encoding format [] answer made said h = h
+acyc-calls encoding format (text ∷ []) answer made said h = h.0
+acyc-calls encoding format (text ∷ next ∷ texts) answer made said h = h
 
 calls-weaker : (command : Command) (texts : List (List ℕ)) (answer : Answer) (made : List (List ℕ)) (said : List ℕ) → CallFor (promise_in_order command) texts answer made said → CallFor (promise_of command) texts answer made said
 calls-weaker (Lp2normal format) texts answer made said h = record { within = h.within; answers = h.answers; silent = h.silent }
-calls-weaker Lp2sat texts answer made said h = record { within = h.within; answers = sat-calls texts answer made said h.answers; silent = h.silent }
+calls-weaker (Lp2acyc encoding format) texts answer made said h = record { within = h.within; answers = acyc-calls encoding format texts answer made said h.answers; silent = h.silent }
+calls-weaker (Lp2sat format) texts answer made said h = record { within = h.within; answers = sat-calls format texts answer made said h.answers; silent = h.silent }
 calls-weaker Back texts answer made said h = record { within = h.within; answers = h.answers; silent = h.silent }
 calls-weaker Check texts answer made said h = record { within = h.within; answers = h.answers; silent = h.silent }
 

@@ -31,3 +31,7 @@ line-written old a b c first word xs p q r =
 pub costs-line : (costs : List ℤ) → false ≡ (length costs == 0) → cost_lines costs ≡ line_of (codes "cost" ∷ map signed_decimal costs)
 costs-line [] h = absurd (true≢false (sym h))
 costs-line (cost ∷ costs) h = refl
+
+-- the words of a cycle of a formula's edges
+pub cycle-words : (xs : List ℤ) → line_of (codes "rejected" ∷ codes "cycle" ∷ map signed_decimal xs) ≡ line_of (codes "rejected cycle" ∷ map signed_decimal xs)
+cycle-words xs = ap (λ s. codes "rejected " ++ s) (line-pieces (codes "cycle") signed_decimal xs) ∙ sym (line-pieces (codes "rejected cycle") signed_decimal xs)

@@ -1,12 +1,13 @@
 -- What the texts of a formula, a map and a solver's answer call for: the answer is accepted exactly
 -- where it is a model of the formula, and then the names and costs are said that it has through the
 -- map.
-use Rattle.std.specs.Prelude.{◌≡◌, ◌≢◌, ℕ, ◌==◌, Bool, true, false, List, [], ◌∷◌, Some, Result, Ok, Err}
+use Rattle.std.specs.Prelude.{◌≡◌, ◌≢◌, ℕ, ◌==◌, Bool, true, false, List, [], ◌∷◌, Some, None, Result, Ok, Err}
 use Rattle.asp_base.specs.Faults.{Fault}
 use Rattle.asp_base.specs.Literal.{Pos}
 use Rattle.asp_base.specs.Sets.{Set}
 use Rattle.clause_store.specs.Clauses.{Clauses}
-use Rattle.clause_store.specs.Models.{IsModel, first_false}
+use Rattle.clause_store.specs.Models.{IsModel, first_false, linked}
+use Rattle.graph_cycles.specs.Cycle.{IsCycle}
 use Rattle.dimacs_format.specs.Read.{formula_of}
 use Rattle.dimacs_format.specs.declared.kind.FormulaKind.{FormulaKind}
 use Rattle.symbol_map.specs.Symbols.{Symbols}
@@ -17,11 +18,11 @@ use Rattle.back_map.specs.Read.{Answered, has, answer_of}
 use Rattle.back_map.specs.declared.answer.AnswerKind.{AnswerKind}
 use Rattle.back_map.specs.declared.answer.Status.TheVariants.{Satisfied}
 use Rattle.asp_tools.specs.Refusing.{IsRefused}
-use Rattle.asp_tools.specs.Sayings.{accepted_text, rejected_clause_text, no_model_text}
+use Rattle.asp_tools.specs.Sayings.{accepted_text, rejected_clause_text, rejected_cycle_text, no_model_text}
 use Rattle.asp_tools.specs.declared.answer.Answer.{Answer}
 use Rattle.asp_tools.specs.declared.answer.Answer.TheVariants.{Done, Rejected, NoModelGiven}
 use Rattle.asp_tools.specs.declared.outcome.Kind.TheVariants as kinds
-use Rattle.asp_tools.specs.declared.outcome.Why.TheVariants.{Clause}
+use Rattle.asp_tools.specs.declared.outcome.Why.TheVariants.{Clause, Cycle}
 
 -- the assignment of an answer: variables that it does not name are false
 abbrev pub values_of : Answered → Set
@@ -35,6 +36,9 @@ Judges F m x Done said =
 Judges F m x (Rejected (Clause place)) said =
     (x.status ≡ Satisfied) × (first_false F.hard (values_of x) ≡ Some place) ×
     (said ≡ rejected_clause_text place)
+Judges F m x (Rejected (Cycle walk)) said =
+    (x.status ≡ Satisfied) × (first_false F.hard (values_of x) ≡ None) ×
+    IsCycle (linked F.edges (values_of x)) walk × (said ≡ rejected_cycle_text walk)
 Judges F m x NoModelGiven said = (x.status ≢ Satisfied) × (said ≡ no_model_text)
 Judges F m x answer said = ⊥
 

@@ -50,8 +50,9 @@ abbrev pub job_by : Option Command → List (List ℕ) → Option SeenJob
 job_by None words = None
 job_by (Some command) words = job_behind command words
 
--- a command's word, its flags, and its names: lp2normal [--smodels] IN OUT, lp2sat IN OUT MAP,
--- back FORMULA MAP ANSWER, check IN ATOMS
+-- a command's word, its flags, and its names: lp2normal [--smodels] IN OUT,
+-- lp2acyc [--plain] [--ecnf] IN OUT [MAP], lp2sat [--soft] IN OUT MAP, back FORMULA MAP ANSWER,
+-- check IN ATOMS
 abbrev pub job : List (List ℕ) → Option SeenJob
 job [] = None
 job (word ∷ words) = job_by (command_of word) words

@@ -1,3 +1,5 @@
+pub mod AcycAnswers
+pub mod AcycInOrder
 pub mod BackAnswers
 pub mod Calls
 pub mod CallsInOrder

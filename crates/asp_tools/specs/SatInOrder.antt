@@ -8,18 +8,19 @@ use Rattle.ground_program.specs.Normal.{AreNormal}
 use Rattle.ground_program.specs.declared.reading.ReadKind.{ReadKind}
 use Rattle.clause_store.specs.Clauses.{Clauses}
 use Rattle.dimacs_format.specs.Read.{formula_of}
-use Rattle.sat_translation.specs.Ranked.{IsRanked}
+use Rattle.sat_translation.specs.Ranked.{IsRanked, hard_part}
 use Rattle.asp_tools.specs.ProgramText.{program_of_text}
 use Rattle.asp_tools.specs.SatAnswers.{SatAnswers}
 use Rattle.asp_tools.specs.declared.answer.Answer.{Answer}
+use Rattle.asp_tools.specs.declared.command.FormulaFormat.{FormulaFormat}
 
--- the first of two texts that are made is read as such a formula
+-- the first of two texts that are made is read as a formula whose hard clauses are these
 abbrev pub HasRanked : Result Ground (Fault ReadKind) → List (List ℕ) → Type 0
 HasRanked (Ok P) (target ∷ table ∷ []) =
-    AreNormal P.rules → (F : Clauses) × (formula_of target ≡ Ok F) × IsRanked P F
+    AreNormal P.rules → (F : Clauses) × (formula_of target ≡ Ok F) × IsRanked P (hard_part F)
 HasRanked read made = ⊤
 
-abbrev pub SatInOrder : List (List ℕ) → Answer → List (List ℕ) → List ℕ → Type 0
-SatInOrder (text ∷ []) answer made said =
-    SatAnswers (text ∷ []) answer made said × HasRanked (program_of_text text) made
-SatInOrder texts answer made said = ⊥
+abbrev pub SatInOrder : FormulaFormat → List (List ℕ) → Answer → List (List ℕ) → List ℕ → Type 0
+SatInOrder format (text ∷ []) answer made said =
+    SatAnswers format (text ∷ []) answer made said × HasRanked (program_of_text text) made
+SatInOrder format texts answer made said = ⊥

@@ -23,6 +23,10 @@ accepted_text names costs = line_of (codes "accepted" ∷ []) ++ seen_lines name
 abbrev pub rejected_clause_text : ℕ → List ℕ
 rejected_clause_text place = line_of (codes "rejected" ∷ codes "clause" ∷ decimal place ∷ [])
 
+abbrev pub rejected_cycle_text : List ℤ → List ℕ
+rejected_cycle_text nodes =
+    line_of (codes "rejected" ∷ codes "cycle" ∷ map signed_decimal nodes)
+
 abbrev pub no_model_text : List ℕ
 no_model_text = line_of (codes "no" ∷ codes "model" ∷ codes "given" ∷ [])
 

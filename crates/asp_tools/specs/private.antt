@@ -1,5 +1,6 @@
 -- Definitions that private functions and the insides of types use; no contract of a public call
 -- names them.
+pub mod Acyclic
 pub mod Long
 pub mod Names
 pub mod Normalizing

@@ -19,7 +19,7 @@ pub enum Answer {
     Rejected(Why),
     /// The solver's answer has no values: there is no model, or none is known.
     NoModelGiven,
-    /// The program's room is this number, above 2^24.
+    /// The program's room, or for unique edges its tangle, is this number, above 2^24.
     TooLarge { number: u64 },
 }
 

@@ -15,7 +15,7 @@ ghost use Rattle.asp_tools.specs.private.Replying.{Replying};
 use crate::answer::Answer;
 use crate::outcome::{Kind, Why};
 use crate::replies::{refused, saying};
-use crate::sayings::{accepted_text, no_model_text, rejected_clause_text};
+use crate::sayings::{accepted_text, no_model_text, rejected_clause_text, rejected_cycle_text};
 use asp_base::{ByteList, Memory, VecList};
 use back_map::{AnswerRefusal, Judged, back as judge, read_answer};
 use clause_store::{Assignment, Formula};
@@ -59,7 +59,6 @@ fn reply_to(
 /// The formula of a text, which is let go.
 fn formula_in(alloc: Global, text: ByteList) -> Result<Formula, FormulaRefusal>
     ensures formula { IfOk result (λ formula. formula_of text ≡ Ok formula) }
-    ensures edges { IfOk result (λ formula. formula.edges ≡ []) }
     ensures few { IfOk result (λ formula. formula.vars < 2 ^ 31) }
     ensures fault { IfErr result (λ refusal. Refuses (formula_of text) refusal) }
 {
@@ -73,7 +72,6 @@ fn reply_through(
     map: ByteList,
     answer: ByteList,
 ) -> Result<Reply<Answer>, Memory>
-    requires edges { formula.now.edges ≡ [] }
     requires few { formula.now.vars < 2 ^ 31 }
     ensures { IfOk result (λ r. Replying (OfMap formula.now (map_of map) answer)
         r.answer r.made r.said) }
@@ -110,7 +108,6 @@ fn reply_over(
     map: &SymbolMap,
     answer: ByteList,
 ) -> Result<Reply<Answer>, Memory>
-    requires edges { formula.now.edges ≡ [] }
     requires few { formula.now.vars < 2 ^ 31 }
     requires same { formula.now.vars ≡ map.now.vars }
     ensures { IfOk result (λ r. Replying (OfAnswer formula.now map.now (answer_of answer formula.now.vars))
@@ -140,7 +137,6 @@ fn judgement(
     map: &SymbolMap,
     values: &Assignment,
 ) -> Result<Reply<Answer>, Memory>
-    requires edges { formula.now.edges ≡ [] }
     requires vars { length values.now ≡ formula.now.vars }
     ensures { IfOk result (λ r. Replying (OnValues formula.now map.now (true_in values.now))
         r.answer r.made r.said) }
@@ -154,6 +150,10 @@ fn judgement(
             Answer::Rejected(Why::Clause(place)),
             rejected_clause_text(alloc, place)?,
         )),
+        Ok(Judged::Cycle(walk)) => {
+            let said = rejected_cycle_text(alloc, &walk)?;
+            Ok(saying(alloc, Answer::Rejected(Why::Cycle(walk)), said))
+        }
         // It is want of memory, since the numbers of variables are the same.
         Err(_) => Err(Memory),
     }

@@ -76,23 +76,29 @@ impl Complaint {
         self.put_line_number(line);
         self.put(b": ");
         self.put(kind.name().as_bytes());
-        self.put_mismatch(kind);
+        self.put_numbers(kind);
     }
 
-    /// Puts the two numbers of variables of a mismatch, a space before each.
-    fn put_mismatch(&mut self, kind: Kind)
+    /// Puts the numbers of a kind that has some, a space before each.
+    fn put_numbers(&mut self, kind: Kind)
         requires { array_vec_len self.old.line ≤ 270 }
         ensures { array_vec_len self.new.line ≤ 359 }
     {
-        if let Kind::Mismatch {
-            formula_vars,
-            map_vars,
-        } = kind
-        {
-            self.put(b" ");
-            self.put_number(formula_vars.into());
-            self.put(b" ");
-            self.put_number(map_vars.into());
+        match kind {
+            Kind::Mismatch {
+                formula_vars,
+                map_vars,
+            } => {
+                self.put(b" ");
+                self.put_number(formula_vars.into());
+                self.put(b" ");
+                self.put_number(map_vars.into());
+            }
+            Kind::SumTooLarge { priority } => {
+                self.put(b" ");
+                self.put_priority(priority);
+            }
+            _ => {}
         }
     }
 
@@ -112,6 +118,14 @@ impl Complaint {
         ensures { array_vec_len self.new.line ≤ array_vec_len self.old.line + 200 }
     {
         self.put(cut(name.as_bytes()));
+    }
+
+    fn put_priority(&mut self, priority: i32)
+        requires { array_vec_len self.old.line ≤ 319 }
+        ensures { array_vec_len self.new.line ≤ array_vec_len self.old.line + 40 }
+    {
+        let mut buffer = Buffer::new();
+        self.put(buffer.format(priority).as_bytes());
     }
 
     fn put_number(&mut self, number: u64)

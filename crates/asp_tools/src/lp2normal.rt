@@ -14,7 +14,7 @@ use crate::answer::Answer;
 use crate::command::{Command, TextFormat};
 use crate::outcome::Kind;
 use crate::program_text::program_in;
-use crate::replies::{refused, saying};
+use crate::replies::{refused, too_large};
 use asp_base::{ByteList, Memory, VecList};
 use ground_program::{Program, ReadRefusal};
 use job_shell::{Output, Reply};
@@ -67,9 +67,7 @@ fn reply_on(alloc: Global, format: TextFormat, program: Program) -> Result<Reply
             drop(program);
             text_of(alloc, format, made)
         }
-        Err(NormalRefusal::TooLarge { room }) => {
-            Ok(saying(alloc, Answer::TooLarge { number: room }, Vec::new(alloc)))
-        }
+        Err(NormalRefusal::TooLarge { room }) => Ok(too_large(alloc, room)),
         Err(NormalRefusal::Memory) => Err(Memory),
     }
 }

@@ -2,70 +2,98 @@
 //!
 //! A text is let go once its program is read, the program once it is translated, and the formula once it is written.
 
-ghost use Rattle.std.specs.Prelude.{◌≡◌, ◌≤◌, ◌^◌, false, List, [], length, Ok, IfOk, if◌then◌else◌};
+ghost use Rattle.std.specs.Prelude.{◌≡◌, ◌≤◌, ◌^◌, [], length, IfOk, if◌then◌else◌};
 ghost use Rattle.std.specs.List.{AllByRecursion};
 ghost use Rattle.asp_tools.specs.Calls.{makes};
 ghost use Rattle.asp_tools.specs.ProgramText.{program_of_text};
 ghost use Rattle.asp_tools.specs.SatInOrder.{SatInOrder};
 ghost use Rattle.asp_tools.specs.private.Replying.{AreTextsOf, SatReply, GroundReply};
-ghost use Rattle.sat_translation.specs.Translated.{IsCnf};
+ghost use Rattle.sat_translation.specs.Translated.{IsCnf, IsWcnf};
 
 use crate::answer::Answer;
-use crate::command::Command;
+use crate::command::{Command, FormulaFormat};
+use crate::formula_texts::with_map;
 use crate::outcome::Kind;
 use crate::program_text::program_in;
-use crate::replies::{refused, saying};
+use crate::replies::{refused, too_large};
 use asp_base::{ByteList, Memory, VecList};
-use dimacs_format::write_cnf;
+use dimacs_format::{write_cnf, write_wcnf};
 use ground_program::{Program, ReadRefusal};
-use job_shell::{Output, Reply};
-use sat_translation::{TranslateRefusal, Translation, translate};
+use job_shell::Reply;
+use sat_translation::{SoftRefusal, TranslateRefusal, Translation, translate, translate_soft};
 use std::alloc::Global;
 
-/// The reply to the text of a program.
-pub(crate) fn reply(alloc: Global, texts: VecList<ByteList>) -> Result<Reply<Answer>, Memory>
+/// The reply to the text of a program, with its formula in this format.
+pub(crate) fn reply(
+    alloc: Global,
+    format: FormulaFormat,
+    texts: VecList<ByteList>,
+) -> Result<Reply<Answer>, Memory>
     requires count { length texts ≡ 1 }
     requires within { AllByRecursion (λ text. length text ≤ 2 ^ 30) texts }
-    ensures answers { IfOk result (λ r. SatInOrder texts r.answer r.made r.said) }
-    ensures made { IfOk result (λ r. length r.made ≡ (if makes Command.Lp2sat r.answer then 2 else 0)) }
+    ensures answers { IfOk result (λ r. SatInOrder format texts r.answer r.made r.said) }
+    ensures made { IfOk result (λ r. length r.made ≡ (if makes (Command.Lp2sat format) r.answer then 2 else 0)) }
     ensures said { IfOk result (λ r. r.said ≡ []) }
 {
     let mut texts = texts.into_vec();
     match texts.pop() {
-        Some(text) => reply_to(alloc, text),
+        Some(text) => reply_to(alloc, format, text),
         // There is a text.
         None => Err(Memory),
     }
 }
 
 /// The reply to the text.
-fn reply_to(alloc: Global, text: ByteList) -> Result<Reply<Answer>, Memory>
+fn reply_to(alloc: Global, format: FormulaFormat, text: ByteList) -> Result<Reply<Answer>, Memory>
     requires { length text ≤ 2 ^ 30 }
-    ensures { IfOk result (λ r. SatReply (program_of_text text) r.answer r.made r.said) }
+    ensures { IfOk result (λ r. SatReply format (program_of_text text) r.answer r.made r.said) }
 {
     match program_in(alloc, text) {
-        Ok(program) => reply_on(alloc, program),
+        Ok(program) => reply_on(alloc, format, program),
         Err(ReadRefusal::At { line, kind }) => Ok(refused(alloc, 1, line, Kind::Text(kind))),
         Err(ReadRefusal::Memory) => Err(Memory),
     }
 }
 
 /// The reply to a program.
-fn reply_on(alloc: Global, program: Program) -> Result<Reply<Answer>, Memory>
-    ensures { IfOk result (λ r. GroundReply program r.answer r.made r.said) }
+fn reply_on(alloc: Global, format: FormulaFormat, program: Program) -> Result<Reply<Answer>, Memory>
+    ensures { IfOk result (λ r. GroundReply format program r.answer r.made r.said) }
+{
+    match format {
+        FormulaFormat::Cnf => reply_in_clauses(alloc, program),
+        FormulaFormat::Wcnf => reply_in_soft_clauses(alloc, program),
+    }
+}
+
+/// The reply to a program with a CNF.
+fn reply_in_clauses(alloc: Global, program: Program) -> Result<Reply<Answer>, Memory>
+    ensures { IfOk result (λ r. GroundReply FormulaFormat.Cnf program r.answer r.made r.said) }
 {
     match translate(alloc, program) {
-        Ok(translation) => texts_of(alloc, translation),
+        Ok(translation) => clauses_of(alloc, translation),
         Err(TranslateRefusal::Edges) => Ok(refused(alloc, 1, 0, Kind::Edges)),
-        Err(TranslateRefusal::TooLarge { number }) => {
-            Ok(saying(alloc, Answer::TooLarge { number }, Vec::new(alloc)))
-        }
+        Err(TranslateRefusal::TooLarge { number }) => Ok(too_large(alloc, number)),
         Err(TranslateRefusal::Memory) => Err(Memory),
     }
 }
 
-/// The texts of a formula and of a map.
-fn texts_of(alloc: Global, translation: Translation) -> Result<Reply<Answer>, Memory>
+/// The reply to a program with a WCNF.
+fn reply_in_soft_clauses(alloc: Global, program: Program) -> Result<Reply<Answer>, Memory>
+    ensures { IfOk result (λ r. GroundReply FormulaFormat.Wcnf program r.answer r.made r.said) }
+{
+    match translate_soft(alloc, program) {
+        Ok(translation) => soft_clauses_of(alloc, translation),
+        Err(SoftRefusal::Edges) => Ok(refused(alloc, 1, 0, Kind::Edges)),
+        Err(SoftRefusal::TooLarge { number }) => Ok(too_large(alloc, number)),
+        Err(SoftRefusal::SumTooLarge { priority }) => {
+            Ok(refused(alloc, 1, 0, Kind::SumTooLarge { priority }))
+        }
+        Err(SoftRefusal::Memory) => Err(Memory),
+    }
+}
+
+/// The texts of a formula without soft clauses and of a map.
+fn clauses_of(alloc: Global, translation: Translation) -> Result<Reply<Answer>, Memory>
     requires { IsCnf translation.formula }
     ensures answer { IfOk result (λ r. r.answer ≡ Answer.Done) }
     ensures texts { IfOk result (λ r. AreTextsOf translation.formula translation.map r.made) }
@@ -75,14 +103,19 @@ fn texts_of(alloc: Global, translation: Translation) -> Result<Reply<Answer>, Me
     let mut target = Vec::new(alloc);
     write_cnf(&formula, &mut target)?;
     drop(formula);
-    let mut table = Vec::new(alloc);
-    symbol_map::write(&map, &mut table)?;
-    let mut made = VecList::new(alloc);
-    made.push(Output::from_text(target))?;
-    made.push(Output::from_text(table))?;
-    Ok(Reply {
-        answer: Answer::Done,
-        made,
-        said: VecList::new(alloc),
-    })
+    with_map(alloc, target, map)
+}
+
+/// The texts of a formula with soft clauses and of a map.
+fn soft_clauses_of(alloc: Global, translation: Translation) -> Result<Reply<Answer>, Memory>
+    requires { IsWcnf translation.formula }
+    ensures answer { IfOk result (λ r. r.answer ≡ Answer.Done) }
+    ensures texts { IfOk result (λ r. AreTextsOf translation.formula translation.map r.made) }
+    ensures said { IfOk result (λ r. r.said ≡ []) }
+{
+    let Translation { formula, map } = translation;
+    let mut target = Vec::new(alloc);
+    write_wcnf(&formula, &mut target)?;
+    drop(formula);
+    with_map(alloc, target, map)
 }

@@ -27,8 +27,10 @@ pub enum Kind {
     Answer(AnswerKind),
     /// The map has another number of variables than the formula. Line 0.
     Mismatch { formula_vars: u32, map_vars: u32 },
-    /// The program has edges, which are not translated yet. Line 0.
+    /// The program has edges, which `lp2sat` does not translate. Line 0.
     Edges,
+    /// The scale of the soft clauses first passes 2^63 - 1 at this priority. Line 0.
+    SumTooLarge { priority: i32 },
     /// The program has a part that smodels text does not have: an edge, a weight of a level below 0, or a name that is
     /// empty, begins with a space or tab, or ends with a carriage return. Line 0.
     NotSmodels,
@@ -47,6 +49,7 @@ impl Kind {
             Kind::Answer(kind) => kind.name(),
             Kind::Mismatch { .. } => "Mismatch",
             Kind::Edges => "Edges",
+            Kind::SumTooLarge { .. } => "SumTooLarge",
             Kind::NotSmodels => "NotSmodels",
         }
     }
@@ -80,7 +83,7 @@ pub enum Outcome {
     Rejected(Why),
     /// The solver's answer has no values: there is no model, or none is known.
     NoModelGiven,
-    /// The program's room is this number, above 2^24.
+    /// The program's room, or for unique edges its tangle, is this number, above 2^24.
     TooLarge { number: u64 },
     /// The file could not be read.
     ReadFault { file: u32 },

@@ -22,6 +22,15 @@ pub(crate) fn saying(alloc: Global, answer: Answer, said: Vec<u8>) -> Reply<Answ
     }
 }
 
+/// A measure of the program is this number, which is above its limit.
+pub(crate) fn too_large(alloc: Global, number: u64) -> Reply<Answer>
+    ensures answer { result.answer ≡ Answer.TooLarge number }
+    ensures made { result.made ≡ [] }
+    ensures said { result.said ≡ [] }
+{
+    saying(alloc, Answer::TooLarge { number }, Vec::new(alloc))
+}
+
 /// The file of this place is refused for this line.
 pub(crate) fn refused(alloc: Global, file: u32, line: u64, kind: Kind) -> Reply<Answer>
     requires { is_long_kind kind ≡ false }

@@ -3,7 +3,7 @@
 ghost use Rattle.std.specs.Prelude.{◌≡◌, ◌++◌, ◌∷◌, [], ℕ, List, map, IfOk, OnOk};
 ghost use Rattle.std.specs.List.{flat_map};
 ghost use Rattle.std.specs.Fmt.{decimal, signed_decimal};
-ghost use Rattle.asp_tools.specs.Sayings.{show_line, cost_lines, seen_lines, accepted_text, stable_text, rejected_clause_text, no_model_text, broken_rule_text, broken_requirement_text, unfounded_text, cycle_text};
+ghost use Rattle.asp_tools.specs.Sayings.{show_line, cost_lines, seen_lines, accepted_text, stable_text, rejected_clause_text, rejected_cycle_text, no_model_text, broken_rule_text, broken_requirement_text, unfounded_text, cycle_text};
 
 use asp_base::{ByteList, Memory, Walk};
 use asp_scan::push_number;
@@ -36,6 +36,16 @@ pub(crate) fn rejected_clause_text(alloc: Global, place: u64) -> Result<Vec<u8>,
 {
     let mut text = Vec::from_slice(alloc, b"rejected clause ")?;
     push_number(&mut text, place.into())?;
+    text.push(b'\n')?;
+    Ok(text)
+}
+
+/// The nodes of a cycle of the formula's edges.
+pub(crate) fn rejected_cycle_text(alloc: Global, walk: &Walk) -> Result<Vec<u8>, Memory>
+    ensures { IfOk result (λ text. text.items ≡ rejected_cycle_text walk.now) }
+{
+    let mut text = Vec::from_slice(alloc, b"rejected cycle")?;
+    push_nodes(walk.as_slice(), &mut text)?;
     text.push(b'\n')?;
     Ok(text)
 }

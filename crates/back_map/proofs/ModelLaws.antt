@@ -1,5 +1,5 @@
--- An assignment that makes every clause of a formula without edges true is a model of it.
-use Rattle.std.proofs.Common.{◌≡◌, refl, sym, ◌∙◌, ap, subst, ℕ, zero, suc, ◌<◌, Bool, true, false, List, [], ◌∷◌, length, Option, None, Some, arith}
+-- An assignment that makes every clause of a formula true, and whose edges have no cycle, is a model of it.
+use Rattle.std.proofs.Common.{◌≡◌, refl, sym, ◌∙◌, ap, ℕ, zero, suc, ◌<◌, Bool, true, false, List, [], ◌∷◌, length, Option, None, Some, arith}
 use Rattle.std.specs.Option.{option_map}
 use Rattle.std.proofs.lemmas.Bool.{true≢false, and_from, cond-true, cond-false}
 use Rattle.asp_base.specs.Literal.{Literal}
@@ -8,7 +8,6 @@ use Rattle.asp_base.specs.Walks.{Acyclic}
 use Rattle.clause_store.specs.Assigned.{true_in, value_at}
 use Rattle.clause_store.specs.Clauses.{Clauses}
 use Rattle.clause_store.specs.Models.{IsModel, IsAssignment, clause_true, clauses_true, first_false, linked}
-use Rattle.clause_store.specs.declared.formula.LitEdge.{LitEdge}
 
 all-true : (clauses : List (List Literal)) (A : Set) → first_false clauses A ≡ None → clauses_true clauses A ≡ true
 all-true [] A h = refl
@@ -29,16 +28,10 @@ over-values : (values : List Bool) (vars : ℕ) → length values ≡ vars → I
 over-values values vars e zero h = absurd (true≢false (sym h))
 over-values values vars e (suc n) h = (omega arith, omega (arith, e, within-values values n h))
 
-no-links : (edges : List LitEdge) (A : Set) → edges ≡ [] → Acyclic (linked edges A)
-no-links edges A none = subst (λ es. Acyclic (linked es A)) (sym none) no-link
-  where
-    no-link : Acyclic (linked [] A)
-    no-link node [] w = absurd (true≢false (sym w))
-    no-link node (next ∷ by) w = absurd (true≢false (sym w.0))
-
-pub IsModel-from_true : (F : Clauses) (values : List Bool) → length values ≡ F.vars → F.edges ≡ [] → first_false F.hard (true_in values) ≡ None → IsModel F (true_in values)
-IsModel-from_true F values vars none h = record {
+pub IsModel-from_true : (F : Clauses) (values : List Bool) → length values ≡ F.vars → Acyclic (linked F.edges (true_in values)) → first_false F.hard (true_in values) ≡ None
+    → IsModel F (true_in values)
+IsModel-from_true F values vars acyclic h = record {
   over = over-values values F.vars vars;
   clauses = all-true F.hard (true_in values) h;
-  acyclic = no-links F.edges (true_in values) none;
+  acyclic = acyclic;
 }

@@ -1,10 +1,10 @@
 //! What an assignment of a formula's variables shows of a program through a map, where it is a model of the formula.
 
-ghost use Rattle.std.specs.Prelude.{◌≡◌, [], length, IfOk, IfErr};
+ghost use Rattle.std.specs.Prelude.{◌≡◌, length, IfOk, IfErr};
 ghost use Rattle.clause_store.specs.Assigned.{true_in};
 ghost use Rattle.back_map.specs.Judging.{JudgedAs, RefusedAs};
 
-use asp_base::Memory;
+use asp_base::{Memory, Walk};
 use clause_store::{Assignment, Formula};
 use evaluation::{Seen, evaluate};
 use std::alloc::Global;
@@ -17,6 +17,8 @@ pub enum Judged {
     Accepted(Seen),
     /// The place, from 1, of the first clause without a true literal.
     FalseClause(u64),
+    /// No clause is false, and the edges whose literal is true have this cycle.
+    Cycle(Walk),
 }
 
 /// Why there is no judgement.
@@ -40,7 +42,8 @@ impl From<Memory> for BackRefusal {
 }
 
 /// Judges an assignment of a formula's variables: the place of the first clause that it makes false, or, where there is
-/// none, what it shows of the program through the map. The formula must have no edges.
+/// none, a cycle of the edges that it puts there, or, where there is none either, what it shows of the program through
+/// the map.
 ///
 /// `Mismatch` if the map is not one of as many variables.
 pub fn back(
@@ -49,7 +52,6 @@ pub fn back(
     map: &SymbolMap,
     values: &Assignment,
 ) -> Result<Judged, BackRefusal>
-    requires edges { formula.now.edges ≡ [] }
     requires vars { length values.now ≡ formula.now.vars }
     ensures judged { IfOk result (λ j. (map.now.vars ≡ formula.now.vars)
         × JudgedAs formula.now map.now (true_in values.now) j) }
@@ -63,6 +65,9 @@ pub fn back(
     }
     if let Some(place) = formula.first_false(values) {
         return Ok(Judged::FalseClause(place));
+    }
+    if let Some(walk) = formula.cycle(alloc, values)? {
+        return Ok(Judged::Cycle(walk));
     }
     let seen = evaluate(alloc, values, map.shows.as_slice(), map.levels.as_slice())?;
     Ok(Judged::Accepted(seen))

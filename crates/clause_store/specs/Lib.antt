@@ -1,9 +1,11 @@
 pub mod Additions
 pub mod Assigned
 pub mod Clauses
+pub mod Edges
 pub mod Extension
 pub mod Facts
 pub mod Gates
 pub mod Models
+pub mod Soft
 pub mod Stored
 pub mod private

@@ -4,3 +4,4 @@ pub mod Cut
 pub mod InsideFormula
 pub mod InsideStore
 pub mod Kept
+pub mod Linking

@@ -8,6 +8,7 @@ mod conjunction;
 mod formula;
 mod gate;
 mod known;
+mod linked;
 mod store;
 
 pub use assignment::Assignment;

@@ -1,17 +1,20 @@
-//! A store in which a formula grows: variables, clauses, gates, and conjunctions with a variable of their own.
+//! A store in which a formula grows: variables, hard and soft clauses, edges, gates, and conjunctions with a variable of
+//! their own.
 
-ghost use Rattle.std.specs.Prelude.{◌≡◌, ◌<◌, ◌+◌, ◌-◌, ◌^◌, ℕ, suc, length, List, [], None, IfOk, OnOk, OnErr};
+ghost use Rattle.std.specs.Prelude.{◌≡◌, ◌<◌, ◌+◌, ◌-◌, ◌^◌, ℕ, suc, length, List, [], ◌∷◌, None, IfOk, OnOk, OnErr};
 ghost use Rattle.std.specs.List.{AllByRecursion};
 ghost use Rattle.asp_base.specs.Literal.{Pos};
 ghost use Rattle.clause_store.specs.Additions.{IsSound};
+ghost use Rattle.clause_store.specs.Edges.{with_edge};
 ghost use Rattle.clause_store.specs.Facts.{IsOver};
 ghost use Rattle.clause_store.specs.Gates.{after_gate, IsGateOf};
 ghost use Rattle.clause_store.specs.Extension.{StandsForAll};
+ghost use Rattle.clause_store.specs.Soft.{with_soft};
 ghost use Rattle.clause_store.specs.Stored.{inputs_only, with_variable, with_clause, conjunction, after_conjunction, formula_of_store, find_known, gate_output, with_gate};
 
-use crate::clause_list::ClauseList;
+use crate::clause_list::{Clause, ClauseList};
 use crate::conjunction::push_conjunction;
-use crate::formula::{Formula, LitEdgeList, SoftList};
+use crate::formula::{Formula, LitEdge, LitEdgeList, SoftClause, SoftList};
 use crate::gate::push_gate;
 use crate::known::Known;
 use asp_base::{Lit, Memory};
@@ -96,6 +99,26 @@ impl Store {
         ensures err { OnErr result (self.new ≡ self.old) }
     {
         self.hard.push(lits)
+    }
+
+    /// Adds a soft clause, whose weight is paid where it has no true literal. After `Memory` the store is unchanged.
+    pub fn soft(&mut self, weight: u64, lits: &[Lit]) -> Result<(), Memory>
+        requires weight { 0 < weight }
+        requires over { AllByRecursion (IsOver self.old.vars) lits.now }
+        ensures ok { OnOk result (self.new ≡ with_soft (record { weight = weight; lits = lits.now } ∷ []) self.old) }
+        ensures err { OnErr result (self.new ≡ self.old) }
+    {
+        let lits = Clause::from_vec(Vec::from_slice(self.alloc, lits)?);
+        self.soft.push(SoftClause { weight, lits })
+    }
+
+    /// Adds an edge, which is there where its literal is true. After `Memory` the store is unchanged.
+    pub fn edge(&mut self, from: i32, to: i32, lit: Lit) -> Result<(), Memory>
+        requires { IsOver self.old.vars lit }
+        ensures ok { OnOk result (self.new ≡ with_edge (record { from = from; to = to; lit = lit }) self.old) }
+        ensures err { OnErr result (self.new ≡ self.old) }
+    {
+        self.edges.push(LitEdge { from, to, lit })
     }
 
     /// A new variable that has the table's value for the inputs, with a clause for each of the table's rows. After

@@ -1,3 +1,4 @@
 -- Definitions that private functions and the insides of types use; no contract of a public call
 -- names them.
+pub mod EdgeText
 pub mod Walks

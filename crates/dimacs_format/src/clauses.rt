@@ -4,9 +4,9 @@ ghost use Rattle.std.specs.Prelude.{◌≡◌, ◌≤◌, ◌<◌, ◌-◌, ◌^
 ghost use Rattle.std.specs.List.{AllByRecursion};
 ghost use Rattle.asp_base.specs.Literal.{literal_of};
 ghost use Rattle.clause_store.specs.Facts.{IsOver};
-ghost use Rattle.dimacs_format.specs.Read.{clause, clauses};
+ghost use Rattle.dimacs_format.specs.Read.{clause, clauses, next_clause};
 ghost use Rattle.asp_base.specs.Faults.{Refuses};
-ghost use Rattle.dimacs_format.specs.private.Walks.{tokens_left, onto, clause_from};
+ghost use Rattle.dimacs_format.specs.private.Walks.{items_left, onto, clause_from};
 
 use crate::kind::{FormulaKind, FormulaRefusal};
 use crate::tokens::{fault_at, find_token};
@@ -24,9 +24,9 @@ pub(crate) fn clauses(
 ) -> Result<ClauseList, FormulaRefusal>
     requires { vars ≤ 2 ^ 31 - 1 }
     ensures ok { IfOk result (λ hard.
-        clauses scan.old.last vars n (tokens_left scan.old) ≡ Ok (hard, tokens_left scan.new)) }
+        clauses scan.old.last vars n (items_left scan.old) ≡ Ok (hard, items_left scan.new)) }
     ensures over { IfOk result (λ hard. AllByRecursion (AllByRecursion (IsOver vars)) hard) }
-    ensures err { IfErr result (λ refusal. Refuses (clauses scan.old.last vars n (tokens_left scan.old)) refusal) }
+    ensures err { IfErr result (λ refusal. Refuses (clauses scan.old.last vars n (items_left scan.old)) refusal) }
     ensures last { scan.new.last ≡ scan.old.last }
 {
     let mut hard = ClauseList::new(alloc);
@@ -41,11 +41,10 @@ pub(crate) fn clauses(
 /// A further clause, in `lits`.
 fn next_clause(scan: &mut Scan<'_>, vars: u32, lits: &mut Vec<Lit>) -> Result<(), FormulaRefusal>
     requires { vars ≤ 2 ^ 31 - 1 }
-    ensures ok { OnOk result ((n : ℕ) → clauses scan.old.last vars (suc n) (tokens_left scan.old)
-        ≡ onto (lits.new.items ∷ []) (clauses scan.old.last vars n (tokens_left scan.new))) }
+    ensures ok { OnOk result (
+        next_clause scan.old.last vars (items_left scan.old) ≡ Ok (lits.new.items, items_left scan.new)) }
     ensures over { OnOk result (AllByRecursion (IsOver vars) lits.new.items) }
-    ensures err { IfErr result (λ refusal.
-        (n : ℕ) → Refuses (clauses scan.old.last vars (suc n) (tokens_left scan.old)) refusal) }
+    ensures err { IfErr result (λ refusal. Refuses (next_clause scan.old.last vars (items_left scan.old)) refusal) }
     ensures last { scan.new.last ≡ scan.old.last }
 {
     if find_token(scan) {
@@ -56,12 +55,16 @@ fn next_clause(scan: &mut Scan<'_>, vars: u32, lits: &mut Vec<Lit>) -> Result<()
 }
 
 /// The literals up to the next 0, in `lits`.
-fn literals(scan: &mut Scan<'_>, vars: u32, lits: &mut Vec<Lit>) -> Result<(), FormulaRefusal>
+pub(crate) fn literals(
+    scan: &mut Scan<'_>,
+    vars: u32,
+    lits: &mut Vec<Lit>,
+) -> Result<(), FormulaRefusal>
     requires { vars ≤ 2 ^ 31 - 1 }
     ensures ok { OnOk result (
-        clause scan.old.last vars (tokens_left scan.old) ≡ Ok (lits.new.items, tokens_left scan.new)) }
+        clause scan.old.last vars (items_left scan.old) ≡ Ok (lits.new.items, items_left scan.new)) }
     ensures over { OnOk result (AllByRecursion (IsOver vars) lits.new.items) }
-    ensures err { IfErr result (λ refusal. Refuses (clause scan.old.last vars (tokens_left scan.old)) refusal) }
+    ensures err { IfErr result (λ refusal. Refuses (clause scan.old.last vars (items_left scan.old)) refusal) }
     ensures last { scan.new.last ≡ scan.old.last }
 {
     lits.clear();
@@ -75,11 +78,11 @@ fn literals(scan: &mut Scan<'_>, vars: u32, lits: &mut Vec<Lit>) -> Result<(), F
 fn next_literal(scan: &mut Scan<'_>, vars: u32) -> Result<Option<Lit>, FormulaRefusal>
     requires { vars ≤ 2 ^ 31 - 1 }
     ensures ok { IfOk result (λ lit.
-        clause scan.old.last vars (tokens_left scan.old)
-        ≡ clause_from scan.old.last vars lit (tokens_left scan.new)) }
+        clause scan.old.last vars (items_left scan.old)
+        ≡ clause_from scan.old.last vars lit (items_left scan.new)) }
     ensures over { IfOk result (λ lit. IfSome lit (λ l. IsOver vars l)) }
-    ensures shorter { OnOk result (length (tokens_left scan.new) < length (tokens_left scan.old)) }
-    ensures err { IfErr result (λ refusal. Refuses (clause scan.old.last vars (tokens_left scan.old)) refusal) }
+    ensures shorter { OnOk result (length (items_left scan.new) < length (items_left scan.old)) }
+    ensures err { IfErr result (λ refusal. Refuses (clause scan.old.last vars (items_left scan.old)) refusal) }
     ensures last { scan.new.last ≡ scan.old.last }
 {
     if !find_token(scan) {

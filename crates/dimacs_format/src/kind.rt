@@ -13,7 +13,11 @@ pub enum FormulaKind {
     BadNumber,
     /// A literal's variable is above the number of variables.
     LiteralOutOfRange,
-    /// There are more or fewer clauses than the header says.
+    /// The weight of a clause is below 1.
+    ZeroWeight,
+    /// A line behind the clauses is no edge.
+    BadEdge,
+    /// There are more or fewer clauses or edges than the header says.
     WrongCount,
     /// The text ends within a clause.
     NoEnd,
@@ -28,6 +32,8 @@ impl FormulaKind {
             FormulaKind::BadHeader => "BadHeader",
             FormulaKind::BadNumber => "BadNumber",
             FormulaKind::LiteralOutOfRange => "LiteralOutOfRange",
+            FormulaKind::ZeroWeight => "ZeroWeight",
+            FormulaKind::BadEdge => "BadEdge",
             FormulaKind::WrongCount => "WrongCount",
             FormulaKind::NoEnd => "NoEnd",
         }

@@ -1,10 +1,11 @@
 //! The tokens of a formula's text, over the ends of lines and comments.
 
-ghost use Rattle.std.specs.Prelude.{◌≡◌, ◌<◌, [], ◌∷◌, length, IsSome};
+ghost use Rattle.std.specs.Prelude.{◌≡◌, ◌<◌, ◌≤◌, [], ◌∷◌, length, Ok, IsSome, OnOk, IfErr};
 ghost use Rattle.std.specs.Bool.{OnTrue, OnFalse};
+ghost use Rattle.asp_base.specs.Faults.{Refuses};
 ghost use Rattle.asp_scan.specs.Tokens.{token_at};
-ghost use Rattle.dimacs_format.specs.Read.{content_of};
-ghost use Rattle.dimacs_format.specs.private.Walks.{tokens_left};
+ghost use Rattle.dimacs_format.specs.Read.{content_of, whole_lines, ended};
+ghost use Rattle.dimacs_format.specs.private.Walks.{items_left, skipped};
 ghost use Rattle.asp_base.specs.declared.faults.Refusal.TheVariants as refusals;
 
 use crate::kind::{FormulaKind, FormulaRefusal};
@@ -41,9 +42,10 @@ pub(crate) fn next_content(scan: &mut Scan<'_>) -> bool
 /// Goes to the next token, which may stand in a later line. False where there is none: the walk then stands at the
 /// line of the end.
 pub(crate) fn find_token(scan: &mut Scan<'_>) -> bool
-    ensures same { OnTrue result (tokens_left scan.new ≡ tokens_left scan.old) }
+    ensures same { OnTrue result (skipped (items_left scan.old) ≡ items_left scan.new) }
     ensures found { OnTrue result (IsSome (token_at scan.new.left)) }
-    ensures none { OnFalse result (tokens_left scan.old ≡ []) }
+    ensures shorter { OnTrue result (length (items_left scan.new) ≤ length (items_left scan.old)) }
+    ensures none { OnFalse result (skipped (items_left scan.old) ≡ []) }
     ensures end { OnFalse result (scan.new.line.number ≡ scan.old.last) }
     ensures last { scan.new.last ≡ scan.old.last }
 {
@@ -53,4 +55,28 @@ pub(crate) fn find_token(scan: &mut Scan<'_>) -> bool
         }
     }
     true
+}
+
+/// Behind the last clause: no token is left in its line.
+pub(crate) fn whole_lines(scan: &Scan<'_>) -> Result<(), FormulaRefusal>
+    ensures ok { OnOk result (whole_lines (items_left scan.now) ≡ Ok (content_of scan.now.ahead)) }
+    ensures err { IfErr result (λ refusal. Refuses (whole_lines (items_left scan.now)) refusal) }
+{
+    if scan.end_of_line() {
+        Ok(())
+    } else {
+        Err(fault_at(scan, FormulaKind::WrongCount))
+    }
+}
+
+/// No line is left.
+pub(crate) fn ended(scan: &mut Scan<'_>) -> Result<(), FormulaRefusal>
+    ensures ok { OnOk result (ended (content_of scan.old.ahead) ≡ Ok tt) }
+    ensures err { IfErr result (λ refusal. Refuses (ended (content_of scan.old.ahead)) refusal) }
+{
+    if next_content(scan) {
+        Err(fault_at(scan, FormulaKind::WrongCount))
+    } else {
+        Ok(())
+    }
 }

@@ -1,5 +1,5 @@
-//! The writer of formulas. It takes room for the whole text at once, so that a text of many clauses is not copied as
-//! it grows.
+//! The writer of CNF. It takes room for the whole text at once, so that a text of many clauses is not copied as it
+//! grows, as the other writers do.
 
 ghost use Rattle.std.specs.Prelude.{◌≡◌, ℕ, ◌++◌, ◌<◌, ◌≤◌, ◌-◌, ◌^◌, min, List, [], length, take, Ok, OnOk, OnErr};
 ghost use Rattle.asp_scan.specs.Words.{line_of};
@@ -50,13 +50,22 @@ fn push_lines(formula: &Formula, out: &mut Vec<u8>) -> Result<(), Memory>
     push_clauses(&formula.hard, out)
 }
 
-/// At least the length of the text, or the greatest number: no literal is longer than a sign, as many digits as the
-/// last variable has, and a blank.
+/// At least the length of the text, or the greatest number.
 fn most_bytes(formula: &Formula) -> usize
     ensures { min (length (cnf_text formula.now)) (2 ^ 64 - 1) ≤ result }
 {
+    formula.known();
+    HEADER_BYTES.saturating_add(hard_bytes(formula))
+}
+
+/// At least the length of the lines of the hard clauses, or the greatest number: no literal is longer than a sign, as
+/// many digits as the last variable has, and a blank.
+pub(crate) fn hard_bytes(formula: &Formula) -> usize
+    ensures room { min (length (clause_lines formula.now.hard)) (2 ^ 64 - 1) ≤ result }
+    ensures count { length formula.now.hard < 2 ^ 64 }
+{
     let width = digits(formula.vars) + 2;
-    let mut most = HEADER_BYTES;
+    let mut most: usize = 0;
     for i in 0..formula.hard.len() {
         let literals = formula.hard.get(i).len().saturating_mul(width);
         most = most.saturating_add(literals).saturating_add(2);
@@ -65,7 +74,7 @@ fn most_bytes(formula: &Formula) -> usize
 }
 
 /// The number of decimal digits.
-fn digits(n: u32) -> usize
+pub(crate) fn digits(n: u32) -> usize
     ensures some { 0 < result }
     ensures few { result ≤ 10 }
     ensures enough { n < 10 ^ result }
@@ -84,7 +93,7 @@ fn digits(n: u32) -> usize
     }
 }
 
-fn push_clauses(clauses: &ClauseList, out: &mut Vec<u8>) -> Result<(), Memory>
+pub(crate) fn push_clauses(clauses: &ClauseList, out: &mut Vec<u8>) -> Result<(), Memory>
     ensures ok { OnOk result (out.new.items ≡ out.old.items ++ clause_lines clauses.now) }
     ensures err { OnErr result (take (length out.old.items) out.new.items ≡ out.old.items) }
 {
@@ -106,7 +115,7 @@ fn push_header(formula: &Formula, out: &mut Vec<u8>) -> Result<(), Memory>
     Ok(())
 }
 
-fn push_clause(lits: &[Lit], out: &mut Vec<u8>) -> Result<(), Memory>
+pub(crate) fn push_clause(lits: &[Lit], out: &mut Vec<u8>) -> Result<(), Memory>
     ensures ok { OnOk result (out.new.items ≡ out.old.items ++ line_of (clause_words lits.now)) }
     ensures err { OnErr result (take (length out.old.items) out.new.items ≡ out.old.items) }
 {

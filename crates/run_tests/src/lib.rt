@@ -2,6 +2,8 @@
 #![tactic(auto)]
 
 #[cfg(test)]
+mod acyclic;
+#[cfg(test)]
 mod checks;
 #[cfg(test)]
 mod faults;
@@ -25,5 +27,7 @@ mod refusals;
 mod runs;
 #[cfg(test)]
 mod samples;
+#[cfg(test)]
+mod soft;
 #[cfg(test)]
 mod translations;

@@ -37,7 +37,7 @@ fn refuses_bad_words(rt: HostRuntime) -> Result<(), Fail> {
         &["lp2sat", "in", "out"],
         &["lp2sat", "in", "x", "x"],
         &["lp2sat", "in", "out", "map", "more"],
-        &["lp2acyc", "in", "out"],
+        &["lp2acyc", "--ecnf", "in", "out"],
         &["Check", "in", "atoms"],
         &["check", "x", "x"],
         &["check", "in", "--atoms"],

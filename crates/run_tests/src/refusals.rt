@@ -163,7 +163,7 @@ fn expect_bad_back(
 #[test]
 fn refuses_formulas_and_maps(rt: HostRuntime) -> Result<(), Fail> {
     let formulas = [
-        ("p wcnf 1 1 2\n1 1 0\n", 1, "BadHeader"),
+        ("p dnf 1 1\n1 0\n", 1, "BadHeader"),
         ("p cnf 1 1\nx 0\n", 2, "BadNumber"),
         ("p cnf 1 1\n2 0\n", 2, "LiteralOutOfRange"),
         ("p cnf 1 2\n1 0\n", 2, "WrongCount"),

@@ -11,7 +11,6 @@ use Rattle.ground_program.specs.Occurrences.{over_variables}
 use Rattle.ground_program.specs.Facts.{FallsFrom, IsAtom, IsShort, IsPriority, Among, LiteralsFit, LevelFits, ShowFits, FitsWeight, IsProgram}
 use Rattle.rising_numbers.specs.Rising.{RisesFrom}
 use Rattle.ground_program.specs.Ground.{Ground}
-use Rattle.ground_program.specs.Size.{size}
 use Rattle.ground_program.specs.declared.program.Level.{Level}
 use Rattle.ground_program.specs.declared.program.Show.{Show}
 use Rattle.rising_numbers.proofs.PlaceLaws.{place-within}
@@ -63,11 +62,7 @@ falls-renamed : (atoms : List ℕ) (high : ℤ) (levels : List Level) → FallsF
 falls-renamed atoms high [] f = tt
 falls-renamed atoms high (level ∷ levels) f = (f.0, falls-renamed atoms level.priority levels f.1)
 
--- the levels have no more items than the program's size
-levels_small : (P : Ground) → size P ≤ 2 ^ 24 → sum_by (λ level. 1 + length level.items) P.levels ≤ 2 ^ 24
-levels_small P h = omega arith
-
-pub input_map-is_map : (P : Ground) (kept : List ℕ) (vars : ℕ) → IsProgram P → size P ≤ 2 ^ 24 → length P.atoms ≤ vars → vars < 2 ^ 31
+pub input_map-is_map : (P : Ground) (kept : List ℕ) (vars : ℕ) → IsProgram P → sum_by (λ level. 1 + length level.items) P.levels ≤ 2 ^ 24 → length P.atoms ≤ vars → vars < 2 ^ 31
     → RisesFrom 0 kept → AllByRecursion (λ a. IsAtom a × Among P.atoms a) kept → IsMap (input_map P kept vars)
 input_map-is_map P kept vars f small enough room rise fit =
     record {
@@ -76,13 +71,13 @@ input_map-is_map P kept vars f small enough room rise fit =
       atoms = each-renamed (placed P.atoms) (λ a. IsAtom a × Among P.atoms a) (λ place. IsAtom place.atom × IsVariable vars (atom_of place.lit))
           (λ a k. (k.0, literal-renamed P.atoms vars enough (Pos a) k.1)) kept fit;
       shows = each-renamed (show_over P.atoms) (ShowFits (Among P.atoms)) (ShowFits (IsVariable vars)) (show-renamed P.atoms vars enough) P.shows f.shows;
-      levels = levels-renamed P.atoms vars enough P.levels (levels_small P small) f.levels;
+      levels = levels-renamed P.atoms vars enough P.levels small f.levels;
       priorities = falls-renamed P.atoms (pos (2 ^ 31)) P.levels f.priorities;
       priorities_fit = each-renamed (level_over P.atoms) (λ level. IsPriority level.priority) (λ level. IsPriority level.priority) (λ level k. k) P.levels f.priorities_fit;
     }
 
 -- a map of these parts is one
-pub input_map-made : (P : Ground) (kept : List ℕ) (vars : ℕ) (places : List Place) (shows : List Show) (levels : List Level) → IsProgram P → size P ≤ 2 ^ 24
+pub input_map-made : (P : Ground) (kept : List ℕ) (vars : ℕ) (places : List Place) (shows : List Show) (levels : List Level) → IsProgram P → sum_by (λ level. 1 + length level.items) P.levels ≤ 2 ^ 24
     → length P.atoms ≤ vars → vars < 2 ^ 31 → RisesFrom 0 kept → AllByRecursion (λ a. IsAtom a × Among P.atoms a) kept
     → places ≡ map (placed P.atoms) kept → shows ≡ map (show_over P.atoms) P.shows → levels ≡ map (level_over P.atoms) P.levels
     → IsMap (record { form = Cnf; vars = vars; atoms = places; shows = shows; levels = levels })

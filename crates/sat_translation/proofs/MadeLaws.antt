@@ -97,7 +97,7 @@ keeps-atoms P N p n w r = record {
   priorities = ap (map (λ level. level.priority)) r.levels;
 }
 
-cut-is : (P N : Ground) (vars : ℕ) → IsProgram P → IsProgram N → Within (members P.atoms) (members N.atoms)
+pub cut-is : (P N : Ground) (vars : ℕ) → IsProgram P → IsProgram N → Within (members P.atoms) (members N.atoms)
     → cut_map P.atoms (input_map N N.atoms vars) ≡ input_map N P.atoms vars
 cut-is P N vars p n w =
     ap (λ places. record (input_map N P.atoms vars) { atoms = places })

@@ -1,6 +1,6 @@
 -- The formula of a normal program: its completion, and behind it the rankings of its cyclic
 -- components.
-use Rattle.std.specs.Prelude.{◌≡◌, ℕ, List, ◌++◌}
+use Rattle.std.specs.Prelude.{◌≡◌, ℕ, List, [], ◌++◌}
 use Rattle.asp_base.specs.Literal.{Literal}
 use Rattle.asp_base.specs.Walks.{Reaches}
 use Rattle.ground_program.specs.Dependencies.{depends}
@@ -26,3 +26,7 @@ pub record IsRanked (P : Ground) (F : Clauses) : Type 0 where
   pub tight : ((a : ℕ) → Reaches (depends P.rules) a a → ⊥) → F ≡ completion P
   pub digits_first : DigitsComeFirst P (part_of divided) (cyclic_numbers divided)
   pub founded : HasFounded P (part_of divided) (cyclic_numbers divided) F
+
+-- a formula without its soft clauses
+abbrev pub hard_part : Clauses → Clauses
+hard_part F = record F { soft = []; top = 1 }

@@ -1,2 +1,3 @@
 -- Definitions that private functions use; no contract of a public call names them.
+pub mod Scaled
 pub mod Sizes

@@ -1,8 +1,11 @@
 //! The translation of programs to formulas: from a program to its formula and its map.
 #![tactic(auto)]
 
-mod input_map;
 pub mod laws;
+mod mapping;
+mod softened;
 mod translation;
 
+pub use mapping::{input_map, literals_over};
+pub use softened::{SoftRefusal, translate_soft};
 pub use translation::{TranslateRefusal, Translation, translate};

@@ -16,7 +16,7 @@ ghost use Rattle.sat_translation.specs.Ranked.{IsRanked};
 ghost use Rattle.sat_translation.specs.Translated.{IsCnf, FitsRoom, RefusedAs};
 ghost use Rattle.sat_translation.specs.private.Sizes.{FitsSize};
 
-use crate::input_map::input_map;
+use crate::mapping::input_map;
 use asp_base::Memory;
 use clause_store::{Formula, Store};
 use completion::complete;
@@ -32,6 +32,13 @@ use symbol_map::SymbolMap;
 pub struct Translation {
     pub formula: Formula,
     pub map: SymbolMap,
+}
+
+/// A formula that grows, and the map of its variables.
+#[derive(Drop)]
+pub(crate) struct Draft {
+    pub(crate) store: Store,
+    pub(crate) map: SymbolMap,
 }
 
 /// Why a program is not translated.
@@ -84,7 +91,7 @@ pub fn translate(alloc: Global, program: Program) -> Result<Translation, Transla
 }
 
 /// Whether the program has edges.
-fn has_edges(program: &Program) -> bool
+pub(crate) fn has_edges(program: &Program) -> bool
     ensures some { result ≡ true → program.now.edges ≢ [] }
     ensures none { result ≡ false → program.now.edges ≡ [] }
 {
@@ -94,8 +101,7 @@ fn has_edges(program: &Program) -> bool
     }
 }
 
-/// The formula of a program of normal rules, with a map of the atoms of the program that it stands for, of which the
-/// rest is let go first.
+/// The formula of a program of normal rules, with a map of the atoms of the program that it stands for.
 fn translated(alloc: Global, program: Program, made: Program) -> Result<Translation, Memory>
     requires normal { AreNormal made.rules }
     requires small { size made ≤ 2 ^ 24 }
@@ -104,6 +110,24 @@ fn translated(alloc: Global, program: Program, made: Program) -> Result<Translat
     ensures cnf { IfOk result (λ t. IsCnf t.formula) }
     ensures size { IfOk result (λ t. FitsSize made t.formula) }
     ensures map { IfOk result (λ t. t.map ≡ input_map made program.atoms t.formula.vars) }
+{
+    let Draft { store, map } = mapped(alloc, program, made)?;
+    Ok(Translation {
+        formula: store.finish(1),
+        map,
+    })
+}
+
+/// The clauses of a program of normal rules, with a map of the atoms of the program that it stands for, of which the
+/// rest is let go first.
+pub(crate) fn mapped(alloc: Global, program: Program, made: Program) -> Result<Draft, Memory>
+    requires normal { AreNormal made.rules }
+    requires small { size made ≤ 2 ^ 24 }
+    requires within { Within (members program.atoms) (members made.atoms) }
+    ensures ranked { IfOk result (λ d. IsRanked made (formula_of_store d.store 1)) }
+    ensures cnf { IfOk result (λ d. IsCnf (formula_of_store d.store 1)) }
+    ensures size { IfOk result (λ d. FitsSize made (formula_of_store d.store 1)) }
+    ensures map { IfOk result (λ d. d.map ≡ input_map made program.atoms d.store.vars) }
 {
     let Program {
         atoms,
@@ -115,22 +139,22 @@ fn translated(alloc: Global, program: Program, made: Program) -> Result<Translat
     drop(rules);
     drop(levels);
     drop(shows);
-    let formula = formula_of(alloc, &made)?;
-    let map = input_map(alloc, made, &atoms, formula.vars)?;
-    Ok(Translation { formula, map })
+    let store = store_of(alloc, &made)?;
+    let map = input_map(alloc, made, &atoms, store.vars())?;
+    Ok(Draft { store, map })
 }
 
 /// The completion of a program of normal rules, with rankings.
-fn formula_of(alloc: Global, program: &Program) -> Result<Formula, Memory>
+fn store_of(alloc: Global, program: &Program) -> Result<Store, Memory>
     requires normal { AreNormal program.now.rules }
     requires small { size program.now ≤ 2 ^ 24 }
-    ensures ranked { IfOk result (λ formula. IsRanked program.now formula) }
-    ensures cnf { IfOk result (λ formula. IsCnf formula) }
-    ensures size { IfOk result (λ formula. FitsSize program.now formula) }
+    ensures ranked { IfOk result (λ store. IsRanked program.now (formula_of_store store 1)) }
+    ensures cnf { IfOk result (λ store. IsCnf (formula_of_store store 1)) }
+    ensures size { IfOk result (λ store. FitsSize program.now (formula_of_store store 1)) }
 {
     let mut store = Store::new(alloc, program.atoms.len() as u32);
     add_ranked(alloc, program, &mut store)?;
-    Ok(store.finish(1))
+    Ok(store)
 }
 
 /// Adds the completion and the rankings to a store with a variable for each atom.

@@ -4,5 +4,6 @@ pub mod MapRoundTrip
 mod MapRows
 pub mod RisingCuts
 mod Rows
-mod ScaleLaws
+pub mod ScaleLaws
 mod Searched
+pub mod SoftMaps

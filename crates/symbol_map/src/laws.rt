@@ -4,12 +4,13 @@ ghost use Rattle.std.specs.Prelude.{◌≡◌, ◌^◌, ◌<◌, ℕ, ℤ, List,
 ghost use Rattle.std.specs.List.{AllByRecursion, filter};
 ghost use Rattle.asp_base.specs.Sets.{members, Within};
 ghost use Rattle.clause_store.specs.Clauses.{Clauses};
+ghost use Rattle.clause_store.specs.declared.formula.SoftClause.{SoftClause};
 ghost use Rattle.ground_program.specs.Faithful.{Covers, Faithful};
 ghost use Rattle.ground_program.specs.Ground.{Ground};
 ghost use Rattle.ground_program.specs.declared.program.Level.{Level};
 ghost use Rattle.rising_numbers.specs.Rising.{RisesFrom};
 ghost use Rattle.symbol_map.specs.CutMap.{KeepsAtoms, cut_map};
-ghost use Rattle.symbol_map.specs.FaithfulMap.{CoversMap, FaithfulMap};
+ghost use Rattle.symbol_map.specs.FaithfulMap.{CoversMap, FaithfulMap, JoinsCosts};
 ghost use Rattle.symbol_map.specs.IsMap.{IsMap};
 ghost use Rattle.symbol_map.specs.Read.{map_of};
 ghost use Rattle.symbol_map.specs.Scale.{level_weights, joined_cost};
@@ -50,4 +51,11 @@ pub fn cut_map_has_places_of_its_atoms()
     ensures { (place : ℕ → Place) (xs ys : List ℕ) → ((a : ℕ) → (place a).atom ≡ a)
         → RisesFrom 0 xs → RisesFrom 0 ys → Within (members xs) (members ys)
         → filter (λ p. members xs p.atom) (map place ys) ≡ map place xs }
+{}
+
+/// Soft clauses that have the costs of the levels may be added to a formula that stands for a program.
+pub fn soft_clauses_keep_formula_faithful()
+    ensures { (P : Ground) (F : Clauses) (m : Symbols) (soft : List SoftClause) (top : ℕ) → FaithfulMap P F m
+        → JoinsCosts P (record F { soft = soft; top = top }) (record m { form = Wcnf })
+        → FaithfulMap P (record F { soft = soft; top = top }) (record m { form = Wcnf }) }
 {}

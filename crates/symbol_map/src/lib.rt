@@ -17,7 +17,7 @@ mod values;
 pub use kind::{MapKind, MapRefusal};
 pub use laws::{
     cut_map_has_places_of_its_atoms, faithful_maps_compose, joined_costs_are_of_weights_alone,
-    maps_are_read_back,
+    maps_are_read_back, soft_clauses_keep_formula_faithful,
 };
 pub use map::{Form, Place, PlaceList, SymbolMap};
 pub use reading::read;

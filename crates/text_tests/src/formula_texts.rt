@@ -1,9 +1,9 @@
-//! CNF texts: their first faults, and what is written of their formulas.
+//! CNF, ECNF and WCNF texts: their first faults, and what is written of their formulas.
 
 use crate::aspif_texts::are_same;
 use asp_base::Memory;
 use clause_store::Formula;
-use dimacs_format::{FormulaKind, FormulaRefusal, read, write_cnf};
+use dimacs_format::{FormulaKind, FormulaRefusal, read, write_cnf, write_ecnf, write_wcnf};
 use std::alloc::Global;
 use std::process::Abort;
 use std::test::Fail;
@@ -21,7 +21,9 @@ fn finds_faults(rt: HostRuntime) {
     let rows = [
         ("", 1, FormulaKind::BadHeader),
         ("c x\n\n", 2, FormulaKind::BadHeader),
-        ("\nc\np wcnf 1 1 2\n", 3, FormulaKind::BadHeader),
+        ("\nc\np sat 1\n", 3, FormulaKind::BadHeader),
+        ("p wcnf 1 1 0\n", 1, FormulaKind::BadHeader),
+        ("p ecnf 1 1\n", 1, FormulaKind::BadHeader),
         ("p cnf 1\n", 1, FormulaKind::BadHeader),
         ("p cnf 1 0 x\n", 1, FormulaKind::BadHeader),
         ("p cnf 2147483648 0\n", 1, FormulaKind::BadHeader),
@@ -41,6 +43,15 @@ fn finds_faults(rt: HostRuntime) {
         ("p cnf 1 2\n1 0\n\nc end", 4, FormulaKind::WrongCount),
         ("p cnf 1 1\n1\n", 2, FormulaKind::NoEnd),
         ("p cnf 1 1\n\n1\nc\n", 4, FormulaKind::NoEnd),
+        ("p wcnf 1 1 2\n\n0 1 0\n", 3, FormulaKind::ZeroWeight),
+        ("p wcnf 1 1 2\n1\n", 2, FormulaKind::NoEnd),
+        ("p ecnf 1 0 1\ne 1 2 0\n", 2, FormulaKind::BadEdge),
+        (
+            "p ecnf 1 0 1\ne 1 2 2 x\n",
+            2,
+            FormulaKind::LiteralOutOfRange,
+        ),
+        ("p ecnf 1 1 1\n1 0 e 1 2 1\n", 2, FormulaKind::WrongCount),
     ];
     let alloc = rt.alloc();
     for (text, line, kind) in rows {
@@ -48,7 +59,7 @@ fn finds_faults(rt: HostRuntime) {
     }
 }
 
-/// Writes a formula of hard clauses alone.
+/// Writes a formula in the simplest form that has all of it.
 fn put(formula: &Formula, out: &mut Vec<u8>) -> Result<(), Memory> {
     match (
         formula.edges.as_slice(),
@@ -56,6 +67,8 @@ fn put(formula: &Formula, out: &mut Vec<u8>) -> Result<(), Memory> {
         formula.top,
     ) {
         ([], [], 1) => write_cnf(formula, out),
+        (_, [], 1) => write_ecnf(formula, out),
+        ([], [], 2..=9) => write_wcnf(formula, out),
         _ => Err(Memory),
     }
 }
@@ -80,6 +93,14 @@ fn reads_and_writes_formulas(rt: HostRuntime) -> Result<(), Fail> {
         (
             "c a\n\np  cnf 3 4\r\n1 -2\nc 9 0\n 0 -03 0\t0\n2 2 0\n\n",
             "p cnf 3 4\n1 -2 0\n-3 0\n0\n2 2 0\n",
+        ),
+        (
+            "p ecnf 2 1 2\n1 2 0\n\ne 1 -2 1\nc\ne 02 1 -2\n",
+            "p ecnf 2 1 2\n1 2 0\ne 1 -2 1\ne 2 1 -2\n",
+        ),
+        (
+            "p wcnf 2 2 3\n3 1\n-2 0 4 0\n",
+            "p wcnf 2 2 3\n3 1 -2 0\n3 0\n",
         ),
     ];
     let alloc = rt.alloc();

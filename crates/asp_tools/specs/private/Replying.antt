@@ -11,6 +11,7 @@ use Rattle.asp_tools.specs.Calls.{makes}
 use Rattle.asp_tools.specs.SatAnswers.{OfGround, OfProgram}
 use Rattle.asp_tools.specs.SatInOrder.{HasRanked}
 use Rattle.asp_tools.specs.declared.command.Command.TheVariants.{Lp2sat}
+use Rattle.asp_tools.specs.declared.command.FormulaFormat.{FormulaFormat}
 use Rattle.asp_tools.specs.declared.answer.Answer.{Answer}
 use Rattle.asp_tools.specs.declared.answer.Answer.TheVariants.{Refused, TooLarge}
 
@@ -30,15 +31,18 @@ AreTextsOf F m (target ∷ table ∷ []) = (formula_of target ≡ Ok F) × (map_
 AreTextsOf F m made = ⊥
 
 -- both texts are made, or none is
-abbrev pub HasOutputs : Answer → List (List ℕ) → Type 0
-HasOutputs answer made = length made ≡ (if makes Lp2sat answer then 2 else 0)
+abbrev pub HasOutputs : FormulaFormat → Answer → List (List ℕ) → Type 0
+HasOutputs format answer made = length made ≡ (if makes (Lp2sat format) answer then 2 else 0)
 
 -- the reply of `lp2sat` to a program
-abbrev pub GroundReply : Ground → Answer → List (List ℕ) → List ℕ → Type 0
-GroundReply P answer made said =
-    OfGround P answer made × HasRanked (Ok P) made × HasOutputs answer made × (said ≡ [])
+abbrev pub GroundReply : FormulaFormat → Ground → Answer → List (List ℕ) → List ℕ → Type 0
+GroundReply format P answer made said =
+    OfGround format P answer made × HasRanked (Ok P) made × HasOutputs format answer made ×
+    (said ≡ [])
 
 -- and to a text that is read so
-abbrev pub SatReply : Result Ground (Fault ReadKind) → Answer → List (List ℕ) → List ℕ → Type 0
-SatReply read answer made said =
-    OfProgram read answer made × HasRanked read made × HasOutputs answer made × (said ≡ [])
+abbrev pub SatReply : FormulaFormat → Result Ground (Fault ReadKind) → Answer
+    → List (List ℕ) → List ℕ → Type 0
+SatReply format read answer made said =
+    OfProgram format read answer made × HasRanked read made × HasOutputs format answer made ×
+    (said ≡ [])

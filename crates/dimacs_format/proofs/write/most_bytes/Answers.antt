@@ -1,30 +1,12 @@
--- There is room for one clause more.
-use Rattle.std.proofs.Common.{◌≡◌, ◌+◌, ◌*◌, ◌≤◌, ◌<◌, ◌^◌, subst, length, slice_get, Some, arith}
+-- There is room for the header and the lines of clauses.
+use Rattle.std.proofs.Common.{◌≤◌, length, length-append, arith}
 use Rattle.asp_scan.specs.Words.{line_of}
-use Rattle.clause_store.specs.Facts.{IsOver, Fits}
-use Rattle.std.specs.List.{AllByRecursion}
-use Rattle.dimacs_format.specs.Written.{clause_words, header_words}
-use Rattle.dimacs_format.proofs.Lengths.{clause_length, header_length, lines_more, all_at}
+use Rattle.dimacs_format.specs.Written.{header_words, clause_lines}
+use Rattle.dimacs_format.proofs.Lengths.{header_length}
 use Rattle.dimacs_format.proofs.write.most_bytes.Goals as goal
 
-pub loop-i-init : goal.loop-i-init
-loop-i-init c =
+pub returns : goal.returns
+returns c =
     let F = c.args.formula.now in
-    let fits : Fits F = subst Fits c.formula.view_is c.formula.invariant in
-    let count : c.len-i-end.result ≡ length F.hard = subst (λ G. c.len-i-end.result ≡ length G.hard) c.formula.view_is c.len-i-end.ensures in
-    let short : length (line_of (header_words F)) ≤ 40 = header_length F (omega (arith, fits.vars)) (omega (arith, count, c.len-i-end.type_inv)) in
-    omega (arith, short)
-
-pub loop-i-preserved : goal.loop-i-preserved
-loop-i-preserved c =
-    let F = c.args.formula.now in
-    let i = c.loop-i.i in
-    let clause = c.get.result.now in
-    let width = c.digits-width.result in
-    let fits : Fits F = subst Fits c.formula.view_is c.formula.invariant in
-    let at : slice_get F.hard i ≡ Some clause = subst (λ G. slice_get G.hard i ≡ Some clause) c.formula.view_is c.get.ensures.clause in
-    let enough : F.vars < 10 ^ width = subst (λ G. G.vars < 10 ^ width) c.formula.view_is c.digits-width.ensures.enough in
-    let over : AllByRecursion (IsOver F.vars) clause = all_at (AllByRecursion (IsOver F.vars)) F.hard i clause fits.hard at in
-    let line : length (line_of (clause_words clause)) ≤ length clause * (width + 2) + 2 =
-    clause_length width F.vars clause c.digits-width.ensures.some enough (omega (arith, fits.vars)) over in
-    omega (arith, line, lines_more F.hard i clause at, c.saturating_mul-literals.ensures, c.saturating_add.ensures, c.saturating_add-most.ensures, c.loop-i.invariant)
+    let short : length (line_of (header_words F)) ≤ 40 = header_length F (omega (arith, c.known.ensures.vars)) c.hard_bytes.ensures.count in
+    omega (arith, short, length-append (line_of (header_words F)) (clause_lines F.hard), c.hard_bytes.ensures.room, c.saturating_add.ensures)

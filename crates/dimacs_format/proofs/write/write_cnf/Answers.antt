@@ -1,10 +1,10 @@
 -- A text that fits memory has fewer than 2^63 clauses, and is read back.
 use Rattle.std.proofs.Common.{◌^◌, ◌<◌, length, rules}
 use Rattle.std.proofs.lemmas.Result.{on_ok_weaker}
-use Rattle.dimacs_format.proofs.ReadBack.{written-read}
+use Rattle.dimacs_format.proofs.ReadBack.{cnf-back}
 use Rattle.dimacs_format.proofs.write.write_cnf.Goals as goal
 
 pub returns-clause-read_back : goal.returns-clause-read_back
 returns-clause-read_back c =
     let small : length c.append_text.new.out.items < 2 ^ 63 = search rules in
-    on_ok_weaker c.append_text.result (written-read c.args.out.now.items c.append_text.new.out.items c.args.formula.now c.known.ensures c.requires.edges c.requires.soft c.requires.top small) c.append_text.ensures.ok
+    on_ok_weaker c.append_text.result (cnf-back c.args.out.now.items c.append_text.new.out.items c.args.formula.now c.known.ensures c.requires.edges c.requires.soft c.requires.top small) c.append_text.ensures.ok

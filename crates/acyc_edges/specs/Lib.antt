@@ -1,0 +1,6 @@
+pub mod Components
+pub mod Encoding
+pub mod Names
+pub mod Refused
+pub mod Staying
+pub mod private

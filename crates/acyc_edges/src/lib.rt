@@ -1,0 +1,26 @@
+//! Programs whose acyclicity edges stand for the positive recursion of a normal program.
+#![tactic(auto)]
+
+mod bodies;
+mod choosing;
+mod comparing;
+mod copies;
+mod edges;
+mod kept;
+pub mod laws;
+mod listed;
+mod made;
+mod name;
+mod named;
+mod names;
+mod nodes;
+mod numbers;
+mod once;
+mod refusal;
+mod rules;
+mod tables;
+mod unique_names;
+
+pub use choosing::plain;
+pub use comparing::unique;
+pub use refusal::UniqueRefusal;

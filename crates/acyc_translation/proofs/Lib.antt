@@ -1,0 +1,4 @@
+pub mod EdgeLinks
+pub mod EncodedLaws
+pub mod StoreLaws
+pub mod TightLaws

@@ -1,0 +1,3 @@
+-- Definitions that private functions use; no contract of a public call names them.
+pub mod Linked
+pub mod Made

@@ -1,0 +1,4 @@
+pub mod Outcome
+pub mod Passing
+pub mod Softening
+pub mod private

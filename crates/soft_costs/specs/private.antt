@@ -1,0 +1,2 @@
+-- Definitions that private functions use; no contract of a public call names them.
+pub mod Scaling
