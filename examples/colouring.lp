@@ -1,13 +1,13 @@
-% A colouring of a graph: each node has one colour, and linked nodes differ. No rule has a positive literal over an atom
-% that is no fact, as lp2sat asks today.
-node(1..4).
-link(1,2). link(2,3). link(3,4). link(4,1). link(1,3).
-colour(red). colour(green). colour(blue).
+% A map colouring: the states of Australia's mainland, no two neighbours of one colour. Two colours are given, so that
+% there is one answer.
+state(wa;nt;sa;q;nsw;v).
+colour(red;green;blue).
+border(wa,nt). border(wa,sa). border(nt,sa). border(nt,q). border(sa,q).
+border(sa,nsw). border(sa,v). border(q,nsw). border(nsw,v).
 
-col(N,C) :- node(N), colour(C), not without(N,C).
-without(N,C) :- node(N), colour(C), not col(N,C).
-:- node(N), not col(N,red), not col(N,green), not col(N,blue).
-:- node(N), colour(C), colour(D), C < D, not without(N,C), not without(N,D).
-:- link(N,M), colour(C), not without(N,C), not without(M,C).
+{ col(S,C) : colour(C) } = 1 :- state(S).
+:- border(S,R), col(S,C), col(R,C).
+:- not col(wa,red).
+:- not col(nt,green).
 
 #show col/2.
