@@ -21,10 +21,10 @@ use crate::recursion::encode;
 use asp_base::Memory;
 use clause_store::{Formula, Store};
 use completion::complete;
-use ground_program::Program;
-use sat_translation::{Translation, input_map};
+use ground_program::{Atoms, Program};
+use sat_translation::{Translation, in_form, input_map};
 use std::alloc::Global;
-use symbol_map::{Form, SymbolMap};
+use symbol_map::Form;
 
 /// The clauses and edges of a program, and the map of its atoms. Through the map the models of the formula cut to the
 /// program's atoms are its stable models, with their names and costs: with `Plain` maybe several for one, with `Unique`
@@ -65,42 +65,21 @@ fn translated(alloc: Global, program: Program, made: Program) -> Result<Translat
     ensures few { IfOk result (λ t. FitsSize made t.formula) }
     ensures map { IfOk result (λ t. t.map ≡ with_form forms.Ecnf (input_map made program.atoms t.formula.vars)) }
 {
-    let Program {
-        atoms,
-        rules,
-        levels,
-        shows,
-        ..
-    } = program;
-    drop(rules);
-    drop(levels);
-    drop(shows);
+    let given = atoms_of(program);
     let formula = formula_of(alloc, &made)?;
-    let map = input_map(alloc, made, &atoms, formula.vars)?;
+    let map = input_map(alloc, made, &given, formula.vars)?;
     Ok(Translation {
         formula,
-        map: with_form(map, Form::Ecnf),
+        map: in_form(map, Form::Ecnf),
     })
 }
 
-/// The map in another form.
-fn with_form(map: SymbolMap, form: Form) -> SymbolMap
-    ensures { result ≡ with_form form map }
+/// The atoms of a program, of which the rest is let go.
+fn atoms_of(program: Program) -> Atoms
+    ensures { result ≡ program.atoms }
 {
-    let SymbolMap {
-        vars,
-        atoms,
-        shows,
-        levels,
-        ..
-    } = map;
-    SymbolMap {
-        form,
-        vars,
-        atoms,
-        shows,
-        levels,
-    }
+    let Program { atoms, .. } = program;
+    atoms
 }
 
 /// The completion of a program without positive recursion, with its edges.

@@ -8,6 +8,7 @@ use Rattle.std.proofs.lemmas.List.FromFn.{sum_by-map-range_with_len_more}
 use Rattle.std.proofs.lemmas.List.Sums.{sum_by-cons}
 use Rattle.std.proofs.lemmas.Nat.{mul-le}
 use Rattle.asp_base.proofs.Each.{each}
+use Rattle.graph_parts.specs.Divided as graph
 use Rattle.graph_parts.specs.Divided.{is_cyclic_at}
 use Rattle.graph_parts.specs.Groups.{pair_at}
 use Rattle.ground_program.specs.Facts.{Among, RuleFits}
@@ -17,6 +18,7 @@ use Rattle.ground_program.specs.declared.program.Rule.{Rule}
 use Rattle.components.specs.Divided.{Divided, cyclic_parts, members_of}
 use Rattle.components.specs.Parts.{AreSums, entering_terms}
 use Rattle.components.specs.private.Adding.{added, oddness, run}
+use Rattle.components.specs.private.Kept.{HaveSums}
 use Rattle.components.specs.private.Links.{LinkFits, links_of_rules}
 use Rattle.components.specs.private.Measured.{pairs_kept, room_kept, size_of, tangle_kept}
 use Rattle.components.proofs.AddingLaws.{sums-are}
@@ -61,6 +63,11 @@ squares-alike x y same = ⊎_elim
 choose-alike : (b : Bool) (x y z w : ℕ) → min x (2 ^ 63) ≡ min y (2 ^ 63) → min z (2 ^ 63) ≡ min w (2 ^ 63) → min (cond b x z) (2 ^ 63) ≡ min (cond b y w) (2 ^ 63)
 choose-alike true x y z w one other = one
 choose-alike false x y z w one other = other
+
+-- only what is chosen counts
+chosen-alike : (b : Bool) (x y : ℕ) → (b ≡ true → min x (2 ^ 63) ≡ min y (2 ^ 63)) → min (cond b x 0) (2 ^ 63) ≡ min (cond b y 0) (2 ^ 63)
+chosen-alike true x y same = same refl
+chosen-alike false x y same = refl
 
 -- ---- what one pass leaves
 
@@ -121,14 +128,16 @@ odd-each part rules =
 abbrev pub AreAdded : List Rule → (ℕ → List ℕ) → ℕ → (Rule → ℕ) → ℕ → List ℕ → Type 0
 AreAdded rules part count cost each sums = (i : ℕ) → i ≤ count → get_or sums i 0 ≡ min (added (part i) cost each rules) (2 ^ 63)
 
-pub sums-added : (rules : List Rule) (part : ℕ → List ℕ) (count : ℕ) (weights terms odd : List ℕ) → length weights ≡ count + 1 → AreAdded rules part count (λ rule. 1) 1 weights → length terms ≡ count + 1 → AreAdded rules part count (λ rule. min (term rule) (2 ^ 63)) 0 terms → length odd ≡ count + 1 → AreAdded rules part count oddness 0 odd → AreSums rules part count weights terms odd
-sums-added rules part count weights terms odd weights_sized weighed terms_sized termed odd_sized basic = record {
-  weights_sized = weights_sized;
-  weighed = λ i low. weighed i low ∙ ap (λ n. min n (2 ^ 63)) (one-each (part i) rules);
-  terms_sized = terms_sized;
-  termed = λ i low. termed i low ∙ term-each (part i) rules;
-  odd_sized = odd_sized;
-  basic = λ i low. ap (λ n. n == 0) (basic i low) ∙ odd-each (part i) rules;
+pub sums-added : (rules : List Rule) (part : ℕ → List ℕ) (parts : graph.Divided) (weights terms odd : List ℕ) → length weights ≡ parts.count + 1 → AreAdded rules part parts.count (λ rule. 1) 1 weights → length terms ≡ parts.count + 1 → AreAdded rules part parts.count (λ rule. min (term rule) (2 ^ 63)) 0 terms → length odd ≡ parts.count + 1 → AreAdded rules part parts.count oddness 0 odd → HaveSums rules part parts weights terms odd
+sums-added rules part parts weights terms odd weights_sized weighed terms_sized termed odd_sized basic = record {
+  sums = record {
+    weighed = λ i low high cyclic. weighed i high ∙ ap (λ n. min n (2 ^ 63)) (one-each (part i) rules);
+    termed = λ i low high cyclic. termed i high ∙ term-each (part i) rules;
+    basic = λ i low high cyclic. ap (λ n. n == 0) (basic i high) ∙ odd-each (part i) rules;
+  };
+  weighed = λ i low high cyclic. omega arith;
+  termed = λ i low high cyclic. omega arith;
+  basic = λ i low high cyclic. omega arith;
 }
 
 -- ---- the measures
@@ -153,26 +162,26 @@ sum-chosen f part test (i ∷ is) =
     go true rest = ap (λ n. f (part i) + n) rest ∙ sym (sum_by-cons f (part i) (map part (filter test is)))
     go false rest = omega arith
 
-module _ (rules : List Rule) (d : Divided) (sums : AreSums rules (λ i. members_of i d.atoms d.numbers) d.count d.weights d.terms d.odd) where
-  one-pairs : (i : ℕ) → i ≤ d.count → min (size_of d i * (size_of d i + get_or d.weights i 0)) (2 ^ 63) ≡ min (part_pairs rules (members_of i d.atoms d.numbers)) (2 ^ 63)
-  one-pairs i low =
-      let kept : get_or d.weights i 0 ≡ min (links rules (members_of i d.atoms d.numbers)) (2 ^ 63) = sums.weighed i low in
+module _ (rules : List Rule) (d : Divided) (sums : AreSums rules (λ i. members_of i d.atoms d.numbers) d.count d.cyclic d.weights d.terms d.odd) where
+  one-pairs : (i : ℕ) → 1 ≤ i → i ≤ d.count → is_cyclic_at d.cyclic i ≡ true → min (size_of d i * (size_of d i + get_or d.weights i 0)) (2 ^ 63) ≡ min (part_pairs rules (members_of i d.atoms d.numbers)) (2 ^ 63)
+  one-pairs i low high cyclic =
+      let kept : get_or d.weights i 0 ≡ min (links rules (members_of i d.atoms d.numbers)) (2 ^ 63) = sums.weighed i low high cyclic in
       products-alike (size_of d i) (size_of d i + get_or d.weights i 0) (size_of d i + links rules (members_of i d.atoms d.numbers)) (omega arith)
 
-  one-room : (i : ℕ) → i ≤ d.count → min (room_kept d i * room_kept d i) (2 ^ 63) ≡ min (part_room rules (members_of i d.atoms d.numbers) * part_room rules (members_of i d.atoms d.numbers)) (2 ^ 63)
-  one-room i low =
-      let kept : get_or d.terms i 0 ≡ min (entering_terms rules (members_of i d.atoms d.numbers)) (2 ^ 63) = sums.termed i low in
+  one-room : (i : ℕ) → 1 ≤ i → i ≤ d.count → is_cyclic_at d.cyclic i ≡ true → min (room_kept d i * room_kept d i) (2 ^ 63) ≡ min (part_room rules (members_of i d.atoms d.numbers) * part_room rules (members_of i d.atoms d.numbers)) (2 ^ 63)
+  one-room i low high cyclic =
+      let kept : get_or d.terms i 0 ≡ min (entering_terms rules (members_of i d.atoms d.numbers)) (2 ^ 63) = sums.termed i low high cyclic in
       squares-alike (room_kept d i) (size_of d i + entering_terms rules (members_of i d.atoms d.numbers)) (omega arith)
 
-  one-tangle : (i : ℕ) → i ≤ d.count → min (cond (get_or d.odd i 0 == 0) (size_of d i * (size_of d i + get_or d.weights i 0)) (room_kept d i * room_kept d i)) (2 ^ 63) ≡ min (part_tangle rules (members_of i d.atoms d.numbers)) (2 ^ 63)
-  one-tangle i low =
-      ap (λ (t : Bool). min (cond t (size_of d i * (size_of d i + get_or d.weights i 0)) (room_kept d i * room_kept d i)) (2 ^ 63)) (sums.basic i low)
-      ∙ choose-alike (all_basic rules (members_of i d.atoms d.numbers)) (size_of d i * (size_of d i + get_or d.weights i 0)) (part_pairs rules (members_of i d.atoms d.numbers)) (room_kept d i * room_kept d i) (part_room rules (members_of i d.atoms d.numbers) * part_room rules (members_of i d.atoms d.numbers)) (one-pairs i low) (one-room i low)
+  one-tangle : (i : ℕ) → 1 ≤ i → i ≤ d.count → is_cyclic_at d.cyclic i ≡ true → min (cond (get_or d.odd i 0 == 0) (size_of d i * (size_of d i + get_or d.weights i 0)) (room_kept d i * room_kept d i)) (2 ^ 63) ≡ min (part_tangle rules (members_of i d.atoms d.numbers)) (2 ^ 63)
+  one-tangle i low high cyclic =
+      ap (λ (t : Bool). min (cond t (size_of d i * (size_of d i + get_or d.weights i 0)) (room_kept d i * room_kept d i)) (2 ^ 63)) (sums.basic i low high cyclic)
+      ∙ choose-alike (all_basic rules (members_of i d.atoms d.numbers)) (size_of d i * (size_of d i + get_or d.weights i 0)) (part_pairs rules (members_of i d.atoms d.numbers)) (room_kept d i * room_kept d i) (part_room rules (members_of i d.atoms d.numbers) * part_room rules (members_of i d.atoms d.numbers)) (one-pairs i low high cyclic) (one-room i low high cyclic)
 
-  measured : (kept : ℕ → ℕ) (f : List ℕ → ℕ) → ((i : ℕ) → i ≤ d.count → min (kept i) (2 ^ 63) ≡ min (f (members_of i d.atoms d.numbers)) (2 ^ 63)) → min (sum_by (λ i. cond (is_cyclic_at d.cyclic i) (kept i) 0) (range_with_len 1 d.count)) (2 ^ 63) ≡ min (sum_by f (cyclic_parts d)) (2 ^ 63)
+  measured : (kept : ℕ → ℕ) (f : List ℕ → ℕ) → ((i : ℕ) → 1 ≤ i → i ≤ d.count → is_cyclic_at d.cyclic i ≡ true → min (kept i) (2 ^ 63) ≡ min (f (members_of i d.atoms d.numbers)) (2 ^ 63)) → min (sum_by (λ i. cond (is_cyclic_at d.cyclic i) (kept i) 0) (range_with_len 1 d.count)) (2 ^ 63) ≡ min (sum_by f (cyclic_parts d)) (2 ^ 63)
   measured kept f same =
       lists-alike (λ i. cond (is_cyclic_at d.cyclic i) (kept i) 0) (λ i. cond (is_cyclic_at d.cyclic i) (f (members_of i d.atoms d.numbers)) 0) (range_with_len 1 d.count)
-      (range-each _ 1 d.count (λ i low high. choose-alike (is_cyclic_at d.cyclic i) (kept i) (f (members_of i d.atoms d.numbers)) 0 0 (same i (omega arith)) refl))
+      (range-each _ 1 d.count (λ i low high. chosen-alike (is_cyclic_at d.cyclic i) (kept i) (f (members_of i d.atoms d.numbers)) (same i low (omega arith))))
       ∙ ap (λ n. min n (2 ^ 63)) (sum-chosen f (λ i. members_of i d.atoms d.numbers) (λ i. is_cyclic_at d.cyclic i) (range_with_len 1 d.count))
 
   pub pairs-are : min (sum_by (pairs_kept d) (range_with_len 1 d.count)) (2 ^ 63) ≡ min (pairs rules (cyclic_parts d)) (2 ^ 63)

@@ -5,7 +5,7 @@ use Rattle.graph_parts.specs.Divided.{is_cyclic_at}
 use Rattle.components.specs.Components.{number_of}
 
 -- The program's atoms, the number of each one's component, how many components there are, which of
--- them are cyclic, and what is added up for each (`AreSums`).
+-- them are cyclic, and what is added up for each that is (`AreSums`).
 pub record Divided : Type 0 where
   pub atoms : List ℕ
   pub numbers : List ℕ

@@ -3,7 +3,7 @@
 //! the rule's cost where the stamp was another's; a link to a positive atom adds where the stamp is the rule's. Linear
 //! in the links, and nothing is looked up.
 
-ghost use Rattle.std.specs.Prelude.{◌≡◌, ℕ, ◌+◌, ◌*◌, ◌<◌, ◌≤◌, ◌^◌, ◌==◌, cond, min, length, slice_index, IfOk, EachIndex};
+ghost use Rattle.std.specs.Prelude.{◌≡◌, ℕ, ◌+◌, ◌*◌, ◌<◌, ◌≤◌, ◌^◌, ◌==◌, cond, min, [], length, slice_index, IfOk, EachIndex};
 ghost use Rattle.graph_parts.specs.Groups.{pair_at};
 ghost use Rattle.components.specs.private.Adding.{enter, meet, run};
 ghost use Rattle.components.specs.private.Links.{LinkFits};
@@ -11,12 +11,27 @@ ghost use Rattle.components.specs.private.Links.{LinkFits};
 use asp_base::Memory;
 use std::alloc::Global;
 
-/// What is added up for each component; component 0 is none.
+/// What is added up for each component; component 0 is none. Nothing is there where none is cyclic.
 #[derive(Drop)]
 pub(crate) struct Sums {
     pub(crate) weights: Vec<u64>,
     pub(crate) terms: Vec<u64>,
     pub(crate) odd: Vec<u64>,
+}
+
+impl Sums {
+    /// Nothing.
+    pub(crate) fn none(alloc: Global) -> Sums
+        ensures weights { result.weights.items ≡ [] }
+        ensures terms { result.terms.items ≡ [] }
+        ensures odd { result.odd.items ≡ [] }
+    {
+        Sums {
+            weights: Vec::new(alloc),
+            terms: Vec::new(alloc),
+            odd: Vec::new(alloc),
+        }
+    }
 }
 
 /// Where sums saturate.

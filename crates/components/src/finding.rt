@@ -1,22 +1,23 @@
 //! The components of a program: its links, the parts of their graph among the atoms' nodes by one walk with stacks of
-//! its own (`graph_parts`), sums for the measures, and the atoms of each component by a counting sort. All of it is
-//! linear in the program.
+//! its own (`graph_parts`), sums for the measures where a component is cyclic, and the atoms of each component by a
+//! counting sort. All of it is linear in the program. Where no body has a positive literal, nothing is linked.
 
-ghost use Rattle.std.specs.Prelude.{ℕ, min, ◌≡◌, ◌+◌, ◌-◌, ◌^◌, ◌<◌, ◌≤◌, length, map, slice_index, IfOk, EachIndex};
+ghost use Rattle.std.specs.Prelude.{ℕ, min, ◌≡◌, ◌+◌, ◌-◌, ◌^◌, ◌<◌, ◌≤◌, false, [], length, map, slice_index, IfOk, EachIndex};
 ghost use Rattle.std.specs.List.{AllByRecursion};
+ghost use Rattle.ground_program.specs.Dependencies.{positives_of_body};
 ghost use Rattle.ground_program.specs.Facts.{Among, RuleFits};
 ghost use Rattle.ground_program.specs.Tangle.{AreCyclicComponents};
 ghost use Rattle.ground_program.specs.declared.program.Rule.{Rule};
 ghost use Rattle.components.specs.Components.{AreComponents};
 ghost use Rattle.components.specs.Divided.{cyclic_parts, members_of};
-ghost use Rattle.components.specs.Parts.{ArePartsOf, AreSums};
+ghost use Rattle.components.specs.Parts.{ArePartsOf};
 ghost use Rattle.components.specs.private.Adding.{added};
-ghost use Rattle.components.specs.private.Kept.{numbered};
+ghost use Rattle.components.specs.private.Kept.{HasEntries, HaveSums, IsNoneCyclic, divided, numbered};
 ghost use Rattle.components.specs.private.Links.{links_of_rules};
 
 use crate::adding::{Sums, added};
 use crate::costs::{odd_ones, ones, terms};
-use crate::links::links_of;
+use crate::links::{has_positive, links_of};
 use crate::parts::Parts;
 use asp_base::Memory;
 use graph_parts::{Parts as GraphParts, grouped, parts_among};
@@ -46,10 +47,27 @@ fn found(alloc: Global, program: &Program) -> Result<Parts, Memory>
     if rules.len() >= MOST_NODES - program.atoms.len() {
         return Err(Memory);
     }
+    if !has_positive(rules) {
+        let parts = alone(alloc, program)?;
+        return put_together(alloc, &program.atoms, parts, Sums::none(alloc));
+    }
     let edges = links_of(alloc, &program.atoms, program.atoms.len() as u32, rules)?;
     let parts = places(alloc, program, edges.as_slice())?;
     let sums = sums(alloc, &program.atoms, edges.as_slice(), rules, &parts)?;
     put_together(alloc, &program.atoms, parts, sums)
+}
+
+/// The components of the atoms' places where no body has a positive literal: each is one atom, and none is cyclic.
+fn alone(alloc: Global, program: &Program) -> Result<GraphParts, Memory>
+    requires none { AllByRecursion (λ rule. positives_of_body rule.body ≡ []) program.now.rules }
+    ensures sized { IfOk result (λ parts. length parts.numbers ≡ length program.now.atoms) }
+    ensures most { IfOk result (λ parts. EachIndex parts.numbers (λ u. slice_index parts.numbers u ≤ parts.count)) }
+    ensures components { IfOk result (λ parts. AreComponents program.now parts.numbers parts.count parts.cyclic) }
+    ensures cyclic { IfOk result (λ parts. IsNoneCyclic parts) }
+{
+    program.known();
+    let nodes = program.atoms.len() as u32;
+    parts_among(alloc, nodes, nodes, &[])
 }
 
 /// The components of the atoms' places, by the links of the program.
@@ -66,7 +84,19 @@ fn places(alloc: Global, program: &Program, edges: &[(u32, u32)]) -> Result<Grap
     parts_among(alloc, first + rules, first, edges)
 }
 
-/// What is added up for each component.
+/// Whether a component is cyclic.
+fn is_any_cyclic(parts: &GraphParts) -> bool
+    ensures { result ≡ false → IsNoneCyclic parts.now }
+{
+    for k in 0..parts.count() {
+        if parts.is_cyclic(k + 1) {
+            return true;
+        }
+    }
+    false
+}
+
+/// What is added up for each component, if one is cyclic.
 fn sums(
     alloc: Global,
     atoms: &Atoms,
@@ -79,10 +109,12 @@ fn sums(
     requires edges { edges.now ≡ links_of_rules atoms.now (length atoms.now) rules.now }
     requires sized { length parts.now.numbers ≡ length atoms.now }
     requires most { EachIndex parts.now.numbers (λ u. slice_index parts.now.numbers u ≤ parts.now.count) }
-    ensures { IfOk result (λ sums.
-        AreSums rules.now (λ i. members_of i atoms.now parts.now.numbers) parts.now.count
+    ensures { IfOk result (λ sums. HaveSums rules.now (λ i. members_of i atoms.now parts.now.numbers) parts.now
         sums.weights.items sums.terms.items sums.odd.items) }
 {
+    if !is_any_cyclic(parts) {
+        return Ok(Sums::none(alloc));
+    }
     let costs = ones(alloc, rules)?;
     let weights = added_over(alloc, atoms, edges, rules, parts, costs.as_slice(), 1)?;
     let costs = terms(alloc, rules)?;
@@ -131,18 +163,11 @@ fn put_together(
     requires few { length atoms.now ≤ 2 ^ 30 }
     requires sized { length parts.numbers ≡ length atoms.now }
     requires most { EachIndex parts.numbers (λ u. slice_index parts.numbers u ≤ parts.count) }
-    requires weights { length sums.weights.items ≡ parts.count + 1 }
-    requires terms { length sums.terms.items ≡ parts.count + 1 }
-    requires odd { length sums.odd.items ≡ parts.count + 1 }
-    ensures { IfOk result (λ all. all ≡ record {
-      atoms = atoms.now;
-      numbers = parts.numbers;
-      count = parts.count;
-      cyclic = parts.cyclic;
-      weights = sums.weights.items;
-      terms = sums.terms.items;
-      odd = sums.odd.items;
-    }) }
+    requires weights { HasEntries parts sums.weights.items }
+    requires terms { HasEntries parts sums.terms.items }
+    requires odd { HasEntries parts sums.odd.items }
+    ensures { IfOk result (λ all. all
+        ≡ divided atoms.now parts sums.weights.items sums.terms.items sums.odd.items) }
 {
     let pairs = behind_numbers(alloc, atoms.as_slice(), &parts)?;
     let groups = grouped(alloc, pairs.as_slice(), parts.count() as usize + 1)?;
@@ -167,7 +192,7 @@ fn behind_numbers(
     requires sized { length parts.now.numbers ≡ length atoms.now }
     ensures { IfOk result (λ pairs. pairs.items ≡ numbered atoms.now parts.now.numbers) }
 {
-    let mut pairs = Vec::new(alloc);
+    let mut pairs = Vec::with_capacity(alloc, atoms.len())?;
     for (place, atom) in atoms.iter().enumerate() {
         pairs.push((parts.number(place as u32), *atom))?;
     }

@@ -10,4 +10,5 @@ mod links;
 mod parts;
 
 pub use finding::components;
+pub use links::node_of;
 pub use parts::{Parts, pairs, tangle};

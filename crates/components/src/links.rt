@@ -2,7 +2,7 @@
 //! heads and the positive atoms of its body. Edges from each head to each positive atom would be as many as the product
 //! of both; these are no more than the program's entries. The links of a rule stand together, those from heads first.
 
-ghost use Rattle.std.specs.Prelude.{◌≡◌, ◌+◌, ◌-◌, ◌<◌, ◌≤◌, ◌^◌, ◌++◌, [], length, IfOk, OnOk};
+ghost use Rattle.std.specs.Prelude.{◌≡◌, ◌+◌, ◌-◌, ◌<◌, ◌≤◌, ◌^◌, ◌++◌, false, [], length, IfOk, OnOk};
 ghost use Rattle.std.specs.List.{AllByRecursion};
 ghost use Rattle.asp_base.specs.Literal.{atom_of};
 ghost use Rattle.ground_program.specs.Dependencies.{positives_of_body, positives_of_items, positives_of_literals, with_positive};
@@ -15,8 +15,8 @@ use asp_base::{Lit, Memory};
 use ground_program::{Atoms, Body, Head, Rule};
 use std::alloc::Global;
 
-/// The node of an atom.
-fn node_of(atoms: &Atoms, atom: u32) -> u32
+/// The node of an atom: its place among the atoms, from 0.
+pub fn node_of(atoms: &Atoms, atom: u32) -> u32
     requires { Among atoms.now atom }
     ensures is { result ≡ node_of atoms.now atom }
     ensures within { result < length atoms.now }
@@ -46,6 +46,49 @@ pub(crate) fn links_of(
         node += 1;
     }
     Ok(edges)
+}
+
+/// Whether one of the bodies has a positive literal.
+pub(crate) fn has_positive(rules: &[Rule]) -> bool
+    ensures { result ≡ false → AllByRecursion (λ rule. positives_of_body rule.body ≡ []) rules.now }
+{
+    for rule in rules {
+        if is_positive(&rule.body) {
+            return true;
+        }
+    }
+    false
+}
+
+fn is_positive(body: &Body) -> bool
+    ensures { result ≡ false → positives_of_body body.now ≡ [] }
+{
+    match body {
+        Body::All(lits) => is_any_positive(lits.as_slice()),
+        Body::Sum { items, .. } => is_any_item_positive(items.as_slice()),
+    }
+}
+
+fn is_any_positive(lits: &[Lit]) -> bool
+    ensures { result ≡ false → positives_of_literals lits.now ≡ [] }
+{
+    for literal in lits {
+        if literal.is_positive() {
+            return true;
+        }
+    }
+    false
+}
+
+fn is_any_item_positive(items: &[(Lit, i64)]) -> bool
+    ensures { result ≡ false → positives_of_items items.now ≡ [] }
+{
+    for item in items {
+        if item.0.is_positive() {
+            return true;
+        }
+    }
+    false
 }
 
 fn push_heads(

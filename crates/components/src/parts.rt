@@ -38,21 +38,13 @@ impl Model for Parts {
 }
 
 impl Parts {
-    ghost use Rattle.components.specs.private.Kept.{IsDivided};
+    ghost use Rattle.components.specs.private.Kept.{IsDivided, divided};
 
     /// Components of these atoms, put together by their numbers.
     pub(crate) fn new(atoms: Atoms, parts: GraphParts, groups: Groups, sums: Sums) -> Parts
         requires { IsDivided atoms parts groups.starts groups.values
             sums.weights.items sums.terms.items sums.odd.items }
-        ensures { result ≡ record {
-          atoms = atoms;
-          numbers = parts.numbers;
-          count = parts.count;
-          cyclic = parts.cyclic;
-          weights = sums.weights.items;
-          terms = sums.terms.items;
-          odd = sums.odd.items;
-        } }
+        ensures { result ≡ divided atoms parts sums.weights.items sums.terms.items sums.odd.items }
     {
         Parts {
             atoms,
@@ -102,7 +94,8 @@ impl Parts {
 
     /// What a component adds to `pairs`.
     fn pairs_in(&self, i: u64) -> u64
-        requires { i ≤ self.now.count }
+        requires some { 1 ≤ i }
+        requires most { i ≤ self.now.count }
         ensures { result ≡ min (pairs_kept self.now i) (2 ^ 63) }
     {
         if !self.is_cyclic(i) {
@@ -125,7 +118,8 @@ impl Parts {
 
     /// What a component adds to `tangle`.
     fn tangle_in(&self, i: u64) -> u64
-        requires { i ≤ self.now.count }
+        requires some { 1 ≤ i }
+        requires most { i ≤ self.now.count }
         ensures { result ≡ min (tangle_kept self.now i) (2 ^ 63) }
     {
         if !self.is_cyclic(i) {

@@ -201,15 +201,15 @@ module _ (P : Ground) (program : IsProgram P) (d : Divided) (p : ArePartsOf P d)
     lower = λ a b e. subst₂ (λ m n. m ≤ n) (number-same b) (number-same a) (p.components.lower a b e);
   }
 
-module _ (sources : Sources) (program : IsProgram sources.program.now) (ready : IsReady sources) where
+module _ (sources : Sources) (program : IsProgram sources.given.program.now) (ready : IsReady sources) where
   abbrev P : Ground
-  P = sources.program.now
+  P = sources.given.program.now
 
   abbrev d : Divided
-  d = sources.parts.now
+  d = sources.given.parts.now
 
   abbrev bodies : List (Option Literal)
-  bodies = sources.bodies.now
+  bodies = sources.given.bodies.now
 
   abbrev numbers : List (List Literal)
   numbers = sources.numbers.now
@@ -227,29 +227,29 @@ module _ (sources : Sources) (program : IsProgram sources.program.now) (ready : 
   parts = cyclic_numbers d
 
   pub are : AreParts P.rules P.atoms (part_of d) (members (cyclic_numbers d))
-  are = parts-are P program d ready.parts
+  are = parts-are P program d ready.given.parts
 
   pub numbers-length : length numbers ≡ length P.atoms
   numbers-length = ap length ready.digits ∙ length-table (is_ranked d) (width_among d P.atoms) P.atoms (completed P).vars
 
   pub bodies-length : length bodies ≡ length P.rules
-  bodies-length = ap length ready.literals ∙ length-literals_of_rules P.atoms P.rules _
+  bodies-length = ap length ready.given.literals ∙ length-literals_of_rules P.atoms P.rules _
 
   module _ (c : ℕ) (cyclic : members (cyclic_numbers d) c ≡ true) where
     pub number-stands : (b : ℕ) → component P (part_of d) c b ≡ true → Stands (with_digits P (part_of d) (cyclic_numbers d)).vars (part_width P (part_of d) (cyclic_numbers d) c) numbers (digits_at P (part_of d) (cyclic_numbers d) b) (place P.atoms b - 1)
     number-stands b h =
-        let k : (members P.atoms b ≡ true) × (part_of d b ≡ c) = from_part P program ready.normal part parts are c b h in
+        let k : (members P.atoms b ≡ true) × (part_of d b ≡ c) = from_part P program ready.given.normal part parts are c b h in
         let l : length numbers ≡ length P.atoms = numbers-length in
         record {
           within = let q = place-within P.atoms b k.0 in omega arith;
           is = ap (λ t. digits_in t (place P.atoms b - 1)) ready.digits
               ∙ table-at (is_ranked d) (width_among d P.atoms) P.atoms (completed P).vars b k.0 (ap (members (cyclic_numbers d)) k.1 ∙ cyclic);
-          has = has-digits P program ready.normal part parts are c b cyclic h;
+          has = has-digits P program ready.given.normal part parts are c b cyclic h;
         }
 
     module _ (a : ℕ) (inside_is : component P (part_of d) c a ≡ true) where
       pub atom-among : members P.atoms a ≡ true
-      atom-among = (from_part P program ready.normal part parts are c a inside_is).0
+      atom-among = (from_part P program ready.given.normal part parts are c a inside_is).0
 
       some-atoms : (atoms : List ℕ) (b : ℕ) → members atoms b ≡ true → 0 < length atoms
       some-atoms [] b h = absurd (true≢false (sym h))
@@ -260,11 +260,11 @@ module _ (sources : Sources) (program : IsProgram sources.program.now) (ready : 
 
       pub values-are : rows_listed (component P (part_of d) c) P.rules bodies (values_of (place P.atoms a - 1) (heads_from P.atoms 0 P.rules)) ≡ rows_at P (part_of d) (cyclic_numbers d) c a
       values-are = listed-are P.atoms program.atoms_rise (component P (part_of d) c) a atom-among P.rules bodies bodies-length program.rules
-          ∙ ap (rows_of (component P (part_of d) c) a P.rules) ready.literals
+          ∙ ap (rows_of (component P (part_of d) c) a P.rules) ready.given.literals
 
       pub atom-can : AllByRecursion (CanRank (with_digits P (part_of d) (cyclic_numbers d)).vars (part_width P (part_of d) (cyclic_numbers d) c) numbers) (map (placed P.atoms) (rows_at P (part_of d) (cyclic_numbers d) c a))
       atom-can = rows-can (with_digits P (part_of d) (cyclic_numbers d)).vars (part_width P (part_of d) (cyclic_numbers d) c) numbers (digits_at P (part_of d) (cyclic_numbers d)) P.atoms (component P (part_of d) c)
-          number-stands (completed P).vars a (made P program ready.normal part parts are).up P.rules (body_literals P) (body_literals-over P program.rules)
+          number-stands (completed P).vars a (made P program ready.given.normal part parts are).up P.rules (body_literals P) (body_literals-over P program.rules)
 
       pub atom-is : (s : Stored) → after_atom (place P.atoms a) (digits_at P (part_of d) (cyclic_numbers d) a) (digits_in numbers) (map (placed P.atoms) (rows_at P (part_of d) (cyclic_numbers d) c a)) s
           ≡ after_atom (place P.atoms a) (digits_at P (part_of d) (cyclic_numbers d) a) (digits_at P (part_of d) (cyclic_numbers d)) (rows_at P (part_of d) (cyclic_numbers d) c a) s
@@ -296,7 +296,7 @@ module _ (sources : Sources) (program : IsProgram sources.program.now) (ready : 
         place-var = let q = place-within P.atoms a atom-among in omega arith
 
         pub var-high : i + 1 ≤ (with_digits P (part_of d) (cyclic_numbers d)).vars
-        var-high = let q = place-in P program ready.normal part parts are a atom-among in let u : (completed P).vars ≤ (with_digits P (part_of d) (cyclic_numbers d)).vars = (made P program ready.normal part parts are).up in omega (arith, q.1, place-var)
+        var-high = let q = place-in P program ready.given.normal part parts are a atom-among in let u : (completed P).vars ≤ (with_digits P (part_of d) (cyclic_numbers d)).vars = (made P program ready.given.normal part parts are).up in omega (arith, q.1, place-var)
 
         module _ (own : List Literal) (read : own ≡ get_or numbers i own) (rules : List Row)
             (listed : rules ≡ map (placed P.atoms) (rows_listed (component P (part_of d) c) P.rules bodies (take (get_or ss (i + 1) 0 - get_or ss i 0) (drop (get_or ss i 0) vs)))) where

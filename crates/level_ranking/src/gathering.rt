@@ -16,24 +16,12 @@ ghost use Rattle.level_ranking.specs.private.Sources.{AreNumbered, head_pairs, h
 
 use crate::rules::RankedRule;
 use asp_base::{Lit, Memory};
-use completion::Bodies;
-use components::Parts;
+use completion::{Bodies, literals};
+use components::{Parts, node_of};
 use graph_parts::Groups;
-use ground_program::{Atoms, Body, Head, LitList, Program, Rule};
+use ground_program::{Atoms, Head, LitList, Program, Rule};
 use indexmap::IndexSet;
 use std::alloc::Global;
-
-/// The place of an atom among the atoms, from 0.
-pub(crate) fn index_among(atoms: &Atoms, atom: u32) -> u32
-    requires { Among atoms.now atom }
-    ensures is { result ≡ place atoms.now atom - 1 }
-    ensures within { result < length atoms.now }
-{
-    let Some(place) = atoms.place(atom) else {
-        unreachable!()
-    };
-    place - 1
-}
 
 /// Adds the place of a head, from 0, with that of its rule.
 fn push_head(
@@ -46,7 +34,7 @@ fn push_head(
     ensures { OnOk result (pairs.new.items ≡ pairs.old.items ++ head_pairs atoms.now head.now place) }
 {
     if let Head::One(atom) = head {
-        pairs.push((index_among(atoms, *atom), place))?;
+        pairs.push((node_of(atoms, *atom), place))?;
     }
     Ok(())
 }
@@ -62,16 +50,6 @@ pub(crate) fn heads(alloc: Global, atoms: &Atoms, rules: &[Rule]) -> Result<Vec<
         push_head(&mut pairs, atoms, &rule.head, i as u32)?;
     }
     Ok(pairs)
-}
-
-/// The literals of a body of literals; none of a body with weights.
-fn literals(body: &Body) -> &[Lit]
-    ensures { result.now ≡ literals_of body.now }
-{
-    match body {
-        Body::All(lits) => lits.as_slice(),
-        Body::Sum { .. } => &[],
-    }
 }
 
 /// The atom of a positive literal, where it is in the component.
@@ -133,13 +111,19 @@ fn places_inside(
     Ok(places)
 }
 
-/// What the rankings of a program are made from: its components, the literals of its rules' bodies, the digits of its
-/// atoms, and the places of its rules by those of their heads.
+/// What is given for rankings: a program, its components, and the literals of its rules' bodies.
 #[derive(Drop)]
-pub(crate) struct Sources<'a> {
+pub(crate) struct Given<'a> {
     pub program: &'a Program,
     pub parts: &'a Parts,
     pub bodies: &'a Bodies,
+}
+
+/// What the rankings of a program are made from: what is given, the digits of its atoms, and the places of its rules by
+/// those of their heads.
+#[derive(Drop)]
+pub(crate) struct Sources<'a> {
+    pub given: Given<'a>,
     pub numbers: &'a [LitList],
     pub heads: &'a Groups,
 }
@@ -152,22 +136,22 @@ fn ranked_rule(
     place: u32,
 ) -> Result<RankedRule, Memory>
     requires ready { IsReady sources.now }
-    requires within { place < length sources.now.program.now.rules }
-    ensures { IfOk result (λ row. let P = sources.now.program.now in
-        let S = component P (part_of sources.now.parts.now) part in
-        row ∷ [] ≡ map (placed P.atoms) (rows_listed S P.rules sources.now.bodies.now (place ∷ []))) }
+    requires within { place < length sources.now.given.program.now.rules }
+    ensures { IfOk result (λ row. let P = sources.now.given.program.now in
+        let S = component P (part_of sources.now.given.parts.now) part in
+        row ∷ [] ≡ map (placed P.atoms) (rows_listed S P.rules sources.now.given.bodies.now (place ∷ []))) }
 {
-    let program = sources.program;
+    let program = sources.given.program;
     program.known();
     let rule = &program.rules.as_slice()[place as usize];
     let inside = places_inside(
         alloc,
         &program.atoms,
-        sources.parts,
+        sources.given.parts,
         part,
         literals(&rule.body),
     )?;
-    let body = sources.bodies.literal(u64::from(place) + 1);
+    let body = sources.given.bodies.literal(u64::from(place) + 1);
     Ok(RankedRule { body, inside })
 }
 
@@ -179,10 +163,10 @@ pub(crate) fn ranked_rules(
     places: &[u32],
 ) -> Result<Vec<RankedRule>, Memory>
     requires ready { IsReady sources.now }
-    requires within { EachIndex places.now (λ j. slice_index places.now j < length sources.now.program.now.rules) }
-    ensures { IfOk result (λ rows. let P = sources.now.program.now in
-        let S = component P (part_of sources.now.parts.now) part in
-        rows.items ≡ map (placed P.atoms) (rows_listed S P.rules sources.now.bodies.now places.now)) }
+    requires within { EachIndex places.now (λ j. slice_index places.now j < length sources.now.given.program.now.rules) }
+    ensures { IfOk result (λ rows. let P = sources.now.given.program.now in
+        let S = component P (part_of sources.now.given.parts.now) part in
+        rows.items ≡ map (placed P.atoms) (rows_listed S P.rules sources.now.given.bodies.now places.now)) }
 {
     let mut rows = Vec::new(alloc);
     for place in places {

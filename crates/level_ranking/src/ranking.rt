@@ -21,16 +21,16 @@ ghost use Rattle.components.specs.Divided.{cyclic_numbers};
 ghost use Rattle.level_ranking.specs.Encoding.{after_atom, after_atoms, after_parts, with_rankings};
 ghost use Rattle.level_ranking.specs.Ranked.{HasFounded, DigitsComeFirst, AddsFew, AddsByParts};
 ghost use Rattle.level_ranking.specs.private.Counts.{atom_vars, atoms_vars, parts_vars};
-ghost use Rattle.level_ranking.specs.private.Ready.{IsReady};
+ghost use Rattle.level_ranking.specs.private.Ready.{IsGiven, IsReady};
 ghost use Rattle.level_ranking.specs.private.Sources.{ranking_digits, ranking_rows, ranking_width, ranking_base, in_component, atoms_in};
 
-use crate::gathering::{Sources, heads, index_among, ranked_rules};
+use crate::gathering::{Given, Sources, heads, ranked_rules};
 use crate::numbers::numbers;
 use crate::rules::add_atom;
 use asp_base::Memory;
 use clause_store::Store;
 use completion::Bodies;
-use components::Parts;
+use components::{Parts, node_of};
 use graph_parts::grouped;
 use ground_program::Program;
 use std::alloc::Global;
@@ -44,21 +44,21 @@ fn add_ranked(
     store: &mut Store,
 ) -> Result<(), Memory>
     requires ready { IsReady sources.now }
-    requires cyclic { members (cyclic_numbers sources.now.parts.now) part ≡ true }
-    requires inside { in_component sources.now.program.now sources.now.parts.now part atom ≡ true }
-    requires above { (ranking_base sources.now.program.now sources.now.parts.now).vars ≤ store.old.vars }
-    requires room { let P = sources.now.program.now in let d = sources.now.parts.now in
+    requires cyclic { members (cyclic_numbers sources.now.given.parts.now) part ≡ true }
+    requires inside { in_component sources.now.given.program.now sources.now.given.parts.now part atom ≡ true }
+    requires above { (ranking_base sources.now.given.program.now sources.now.given.parts.now).vars ≤ store.old.vars }
+    requires room { let P = sources.now.given.program.now in let d = sources.now.given.parts.now in
         store.old.vars + atom_vars (ranking_width P d part) (ranking_rows P d part atom) < 2 ^ 31 }
-    ensures store { OnOk result (let P = sources.now.program.now in let d = sources.now.parts.now in
+    ensures store { OnOk result (let P = sources.now.given.program.now in let d = sources.now.given.parts.now in
         store.new ≡ after_atom (place P.atoms atom) (ranking_digits P d atom) (ranking_digits P d)
         (ranking_rows P d part atom) store.old) }
     ensures from { OnOk result (store.old.vars ≤ store.new.vars) }
-    ensures few { OnOk result (let P = sources.now.program.now in let d = sources.now.parts.now in
+    ensures few { OnOk result (let P = sources.now.given.program.now in let d = sources.now.given.parts.now in
         store.new.vars ≤ store.old.vars + atom_vars (ranking_width P d part) (ranking_rows P d part atom)) }
 {
-    let program = sources.program;
+    let program = sources.given.program;
     program.known();
-    let index = index_among(&program.atoms, atom);
+    let index = node_of(&program.atoms, atom);
     let at = index as usize;
     let starts = sources.heads.starts.as_slice();
     let values = sources.heads.values.as_slice();
@@ -77,18 +77,18 @@ fn add_component(
     store: &mut Store,
 ) -> Result<(), Memory>
     requires ready { IsReady sources.now }
-    requires cyclic { members (cyclic_numbers sources.now.parts.now) part ≡ true }
-    requires above { (ranking_base sources.now.program.now sources.now.parts.now).vars ≤ store.old.vars }
-    requires room { let P = sources.now.program.now in let d = sources.now.parts.now in
+    requires cyclic { members (cyclic_numbers sources.now.given.parts.now) part ≡ true }
+    requires above { (ranking_base sources.now.given.program.now sources.now.given.parts.now).vars ≤ store.old.vars }
+    requires room { let P = sources.now.given.program.now in let d = sources.now.given.parts.now in
         store.old.vars + atoms_vars (ranking_width P d part) (ranking_rows P d part) (atoms_in P d part) < 2 ^ 31 }
-    ensures store { OnOk result (let P = sources.now.program.now in let d = sources.now.parts.now in
+    ensures store { OnOk result (let P = sources.now.given.program.now in let d = sources.now.given.parts.now in
         store.new ≡ after_atoms (place P.atoms) (ranking_digits P d) (ranking_rows P d part) (atoms_in P d part)
         store.old) }
     ensures from { OnOk result (store.old.vars ≤ store.new.vars) }
-    ensures few { OnOk result (let P = sources.now.program.now in let d = sources.now.parts.now in store.new.vars
+    ensures few { OnOk result (let P = sources.now.given.program.now in let d = sources.now.given.parts.now in store.new.vars
         ≤ store.old.vars + atoms_vars (ranking_width P d part) (ranking_rows P d part) (atoms_in P d part)) }
 {
-    for atom in sources.parts.members(part) {
+    for atom in sources.given.parts.members(part) {
         add_ranked(alloc, sources, part, *atom, store)?;
     }
     Ok(())
@@ -97,13 +97,13 @@ fn add_component(
 /// Adds the clauses of the ranks of the atoms of all cyclic components.
 fn add_components(alloc: Global, sources: &Sources<'_>, store: &mut Store) -> Result<(), Memory>
     requires ready { IsReady sources.now }
-    requires above { (ranking_base sources.now.program.now sources.now.parts.now).vars ≤ store.old.vars }
-    requires room { let d = sources.now.parts.now in store.old.vars
-        + parts_vars sources.now.program.now (part_of d) (cyclic_numbers d) (cyclic_numbers d) < 2 ^ 31 }
-    ensures { OnOk result (let d = sources.now.parts.now in store.new
-        ≡ after_parts sources.now.program.now (part_of d) (cyclic_numbers d) (cyclic_numbers d) store.old) }
+    requires above { (ranking_base sources.now.given.program.now sources.now.given.parts.now).vars ≤ store.old.vars }
+    requires room { let d = sources.now.given.parts.now in store.old.vars
+        + parts_vars sources.now.given.program.now (part_of d) (cyclic_numbers d) (cyclic_numbers d) < 2 ^ 31 }
+    ensures { OnOk result (let d = sources.now.given.parts.now in store.new
+        ≡ after_parts sources.now.given.program.now (part_of d) (cyclic_numbers d) (cyclic_numbers d) store.old) }
 {
-    let parts = sources.parts;
+    let parts = sources.given.parts;
     for i in 0..parts.count() {
         let part = i + 1;
         if parts.is_cyclic(part) {
@@ -114,29 +114,20 @@ fn add_components(alloc: Global, sources: &Sources<'_>, store: &mut Store) -> Re
 }
 
 /// Adds the clauses of the rankings, by lists for all atoms.
-fn add_listed(
-    alloc: Global,
-    program: &Program,
-    parts: &Parts,
-    bodies: &Bodies,
-    store: &mut Store,
-) -> Result<(), Memory>
-    requires normal { AreNormal program.now.rules }
-    requires small { size program.now ≤ 2 ^ 24 }
-    requires parts { ArePartsOf program.now parts.now }
-    requires bodies { bodies.now ≡ body_literals program.now }
-    requires store { store.old ≡ completed program.now }
-    ensures { OnOk result (store.new ≡ with_rankings program.now (part_of parts.now) (cyclic_numbers parts.now)) }
+fn add_listed(alloc: Global, given: Given<'_>, store: &mut Store) -> Result<(), Memory>
+    requires given { IsGiven given }
+    requires store { store.old ≡ completed given.program.now }
+    ensures { OnOk result (let d = given.entry.parts.now in
+        store.new ≡ with_rankings given.entry.program.now (part_of d) (cyclic_numbers d)) }
 {
+    let program = given.program;
     program.known();
     let atoms = program.atoms.as_slice();
-    let table = numbers(alloc, atoms, parts, store)?;
+    let table = numbers(alloc, atoms, given.parts, store)?;
     let pairs = heads(alloc, &program.atoms, program.rules.as_slice())?;
     let rules_by_head = grouped(alloc, pairs.as_slice(), atoms.len())?;
     let sources = Sources {
-        program,
-        parts,
-        bodies,
+        given,
         numbers: table.as_slice(),
         heads: &rules_by_head,
     };
@@ -157,24 +148,16 @@ fn has_cyclic(parts: &Parts) -> bool
 }
 
 /// Adds the clauses of the rankings. Where no component is cyclic there are none, and no list is made.
-fn add_rankings(
-    alloc: Global,
-    program: &Program,
-    parts: &Parts,
-    bodies: &Bodies,
-    store: &mut Store,
-) -> Result<(), Memory>
-    requires normal { AreNormal program.now.rules }
-    requires small { size program.now ≤ 2 ^ 24 }
-    requires parts { ArePartsOf program.now parts.now }
-    requires bodies { bodies.now ≡ body_literals program.now }
-    requires store { store.old ≡ completed program.now }
-    ensures { OnOk result (store.new ≡ with_rankings program.now (part_of parts.now) (cyclic_numbers parts.now)) }
+fn add_rankings(alloc: Global, given: Given<'_>, store: &mut Store) -> Result<(), Memory>
+    requires given { IsGiven given }
+    requires store { store.old ≡ completed given.program.now }
+    ensures { OnOk result (let d = given.entry.parts.now in
+        store.new ≡ with_rankings given.entry.program.now (part_of d) (cyclic_numbers d)) }
 {
-    if !has_cyclic(parts) {
+    if !has_cyclic(given.parts) {
         return Ok(());
     }
-    add_listed(alloc, program, parts, bodies, store)?;
+    add_listed(alloc, given, store)?;
     Ok(())
 }
 
@@ -207,6 +190,11 @@ pub fn rank(
     ensures unchanged { OnOk result (((a : ℕ) → Reaches (depends program.now.rules) a a → ⊥) → store.new ≡ store.old) }
 {
     program.known();
-    add_rankings(alloc, program, parts, bodies, store)?;
+    let given = Given {
+        program,
+        parts,
+        bodies,
+    };
+    add_rankings(alloc, given, store)?;
     Ok(())
 }

@@ -3,6 +3,7 @@ pub mod BlockPieces
 pub mod ChoicePieces
 pub mod DistinctLaws
 pub mod Faithfulness
+mod GivenLaws
 pub mod GoingOn
 pub mod Joining
 pub mod Listing

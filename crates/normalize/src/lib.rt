@@ -3,7 +3,9 @@
 
 mod complements;
 mod copies;
+mod given;
 mod normalization;
 mod work;
 
+pub use given::{Normalized, into_normal};
 pub use normalization::{NormalRefusal, normal};

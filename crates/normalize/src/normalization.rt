@@ -18,7 +18,7 @@ use ground_program::{Program, room};
 use std::alloc::Global;
 
 /// A program for which normal rules are made has at most this room.
-const ROOM_LIMIT: u64 = 1 << 24;
+pub(crate) const ROOM_LIMIT: u64 = 1 << 24;
 
 /// Why no normal rules are made.
 #[derive(Clone, Copy, Debug, PartialEq, Eq)]

@@ -128,13 +128,15 @@ softened-faithful P N F p n none f r w k e =
 -- ---- what is answered
 
 module _ (P N : Ground) where
-  pub answered-faithful : (answer : Result Translation SoftRefusal) → IsProgram P → IsProgram N → P.edges ≡ [] → Faithful P N → SameRest P N
+  pub answered-faithful : (answer : Result Translation SoftRefusal) (given : List ℕ) → given ≡ P.atoms → IsProgram P → IsProgram N → P.edges ≡ [] → Faithful P N → SameRest P N
       → Within (members P.atoms) (members N.atoms) → IfOk answer (λ t. IsRanked N (hard_part t.formula))
-      → IfOk answer (λ t. t.map ≡ record (input_map N P.atoms t.formula.vars) { form = Wcnf }) → IfOk answer (λ t. t.formula.soft ≡ soft_of t.map.levels)
+      → IfOk answer (λ t. t.map ≡ record (input_map N given t.formula.vars) { form = Wcnf }) → IfOk answer (λ t. t.formula.soft ≡ soft_of t.map.levels)
       → IfOk answer (λ t. FaithfulMap P t.formula t.map)
-  answered-faithful (Ok t) p n none f r w k m s =
-      subst (FaithfulMap P t.formula) (sym m) (softened-faithful P N t.formula p n none f r w k (s ∙ ap (λ (x : Symbols). soft_of x.levels) m))
-  answered-faithful (Err refusal) p n none f r w k m s = tt
+  answered-faithful (Ok t) given same p n none f r w k m s =
+      let map_is : t.map ≡ record (input_map N P.atoms t.formula.vars) { form = Wcnf } =
+      m ∙ ap (λ (atoms : List ℕ). record (input_map N atoms t.formula.vars) { form = Wcnf }) same in
+      subst (FaithfulMap P t.formula) (sym map_is) (softened-faithful P N t.formula p n none f r w k (s ∙ ap (λ (x : Symbols). soft_of x.levels) map_is))
+  answered-faithful (Err refusal) given same p n none f r w k m s = tt
 
   pub answered-fits : (answer : Result Translation SoftRefusal) → size N ≤ room P → IfOk answer (λ t. FitsSize N t.formula) → IfOk answer (λ t. FitsRoom P t.formula)
   answered-fits (Ok t) s f = made-fits P N t.formula s f

@@ -6,6 +6,6 @@ mod mapping;
 mod softened;
 mod translation;
 
-pub use mapping::{input_map, literals_over};
+pub use mapping::{in_form, input_map, literals_over};
 pub use softened::{SoftRefusal, translate_soft};
 pub use translation::{TranslateRefusal, Translation, translate};

@@ -47,6 +47,26 @@ pub fn input_map(
     })
 }
 
+/// The map of a formula's text in another form.
+pub fn in_form(map: SymbolMap, form: Form) -> SymbolMap
+    ensures { result ≡ record map { form = form } }
+{
+    let SymbolMap {
+        vars,
+        atoms,
+        shows,
+        levels,
+        ..
+    } = map;
+    SymbolMap {
+        form,
+        vars,
+        atoms,
+        shows,
+        levels,
+    }
+}
+
 /// Each of these atoms at the variable of its place among all.
 fn places_of(alloc: Global, atoms: &Atoms, kept: &[u32]) -> Result<PlaceList, Memory>
     requires { AllByRecursion (λ a. IsAtom a × Among atoms.now a) kept.now }

@@ -17,10 +17,11 @@ ghost use Rattle.sat_translation.specs.Translated.{FitsRoom, IsWcnf, SoftRefused
 ghost use Rattle.sat_translation.specs.private.Scaled.{PassesAs, soft_refusal};
 ghost use Rattle.sat_translation.specs.private.Sizes.{FitsSize};
 
+use crate::mapping::in_form;
 use crate::translation::{Draft, Translation, has_edges, mapped};
 use asp_base::Memory;
 use ground_program::{Level, Program};
-use normalize::{NormalRefusal, normal};
+use normalize::{NormalRefusal, Normalized, into_normal};
 use soft_costs::{ScaleRefusal, soften};
 use std::alloc::Global;
 use symbol_map::{Form, SymbolMap};
@@ -69,32 +70,32 @@ pub fn translate_soft(alloc: Global, program: Program) -> Result<Translation, So
     if has_edges(&program) {
         return Err(SoftRefusal::Edges);
     }
-    match normal(alloc, &program) {
+    match into_normal(alloc, program) {
         Ok(made) => {
-            made.known();
-            softened(alloc, program, made)
+            made.program.known();
+            softened(alloc, made)
         }
         Err(NormalRefusal::TooLarge { room }) => Err(SoftRefusal::TooLarge { number: room }),
         Err(NormalRefusal::Memory) => Err(SoftRefusal::Memory),
     }
 }
 
-/// The formula of a program of normal rules, with the soft clauses of its levels, and a map of the atoms of the
-/// program that it stands for.
-fn softened(alloc: Global, program: Program, made: Program) -> Result<Translation, SoftRefusal>
-    requires normal { AreNormal made.rules }
-    requires small { size made ≤ 2 ^ 24 }
-    requires within { Within (members program.atoms) (members made.atoms) }
-    ensures ranked { IfOk result (λ t. IsRanked made (hard_part t.formula)) }
+/// The formula of a program of normal rules, with the soft clauses of its levels, and a map of the given atoms, those
+/// of the program that it stands for.
+fn softened(alloc: Global, made: Normalized) -> Result<Translation, SoftRefusal>
+    requires normal { AreNormal made.program.rules }
+    requires small { size made.program ≤ 2 ^ 24 }
+    requires within { Within (members made.given) (members made.program.atoms) }
+    ensures ranked { IfOk result (λ t. IsRanked made.program (hard_part t.formula)) }
     ensures wcnf { IfOk result (λ t. IsWcnf t.formula) }
-    ensures size { IfOk result (λ t. FitsSize made t.formula) }
+    ensures size { IfOk result (λ t. FitsSize made.program t.formula) }
     ensures map { IfOk result (λ t.
-        t.map ≡ record (input_map made program.atoms t.formula.vars) { form = forms.Wcnf }) }
+        t.map ≡ record (input_map made.program made.given t.formula.vars) { form = forms.Wcnf }) }
     ensures soft { IfOk result (λ t. t.formula.soft ≡ soft_of t.map.levels) }
-    ensures fits { IfOk result (λ _. too_large_at made.levels ≡ None) }
-    ensures passes { IfErr result (λ refusal. PassesAs made.levels refusal) }
+    ensures fits { IfOk result (λ _. too_large_at made.program.levels ≡ None) }
+    ensures passes { IfErr result (λ refusal. PassesAs made.program.levels refusal) }
 {
-    let Draft { mut store, map } = mapped(alloc, program, made)?;
+    let Draft { mut store, map } = mapped(alloc, made)?;
     match soften(alloc, levels(&map), &mut store) {
         Ok(scale) => Ok(Translation {
             formula: store.finish(scale.top),
@@ -110,26 +111,6 @@ fn levels(map: &SymbolMap) -> &[Level]
     ensures over { AreOver map.now.vars result.now }
 {
     map.levels.as_slice()
-}
-
-/// The map of a text in this form.
-fn in_form(map: SymbolMap, form: Form) -> SymbolMap
-    ensures { result ≡ record map { form = form } }
-{
-    let SymbolMap {
-        vars,
-        atoms,
-        shows,
-        levels,
-        ..
-    } = map;
-    SymbolMap {
-        form,
-        vars,
-        atoms,
-        shows,
-        levels,
-    }
 }
 
 /// What a refusal to scale levels is for a program.

@@ -21,9 +21,9 @@ use asp_base::Memory;
 use clause_store::{Formula, Store};
 use completion::complete;
 use components::components;
-use ground_program::{Atoms, Program};
+use ground_program::Program;
 use level_ranking::rank;
-use normalize::{NormalRefusal, normal};
+use normalize::{NormalRefusal, Normalized, into_normal};
 use std::alloc::Global;
 use symbol_map::SymbolMap;
 
@@ -80,10 +80,10 @@ pub fn translate(alloc: Global, program: Program) -> Result<Translation, Transla
     if has_edges(&program) {
         return Err(TranslateRefusal::Edges);
     }
-    match normal(alloc, &program) {
+    match into_normal(alloc, program) {
         Ok(made) => {
-            made.known();
-            Ok(translated(alloc, program, made)?)
+            made.program.known();
+            Ok(translated(alloc, made)?)
         }
         Err(NormalRefusal::TooLarge { room }) => Err(TranslateRefusal::TooLarge { number: room }),
         Err(NormalRefusal::Memory) => Err(TranslateRefusal::Memory),
@@ -101,46 +101,36 @@ pub(crate) fn has_edges(program: &Program) -> bool
     }
 }
 
-/// The formula of a program of normal rules, with a map of the atoms of the program that it stands for.
-fn translated(alloc: Global, program: Program, made: Program) -> Result<Translation, Memory>
-    requires normal { AreNormal made.rules }
-    requires small { size made ≤ 2 ^ 24 }
-    requires within { Within (members program.atoms) (members made.atoms) }
-    ensures ranked { IfOk result (λ t. IsRanked made t.formula) }
+/// The formula of a program of normal rules, with a map of the given atoms, those of the program that it stands for.
+fn translated(alloc: Global, made: Normalized) -> Result<Translation, Memory>
+    requires normal { AreNormal made.program.rules }
+    requires small { size made.program ≤ 2 ^ 24 }
+    requires within { Within (members made.given) (members made.program.atoms) }
+    ensures ranked { IfOk result (λ t. IsRanked made.program t.formula) }
     ensures cnf { IfOk result (λ t. IsCnf t.formula) }
-    ensures size { IfOk result (λ t. FitsSize made t.formula) }
-    ensures map { IfOk result (λ t. t.map ≡ input_map made program.atoms t.formula.vars) }
+    ensures size { IfOk result (λ t. FitsSize made.program t.formula) }
+    ensures map { IfOk result (λ t. t.map ≡ input_map made.program made.given t.formula.vars) }
 {
-    let Draft { store, map } = mapped(alloc, program, made)?;
+    let Draft { store, map } = mapped(alloc, made)?;
     Ok(Translation {
         formula: store.finish(1),
         map,
     })
 }
 
-/// The clauses of a program of normal rules, with a map of the atoms of the program that it stands for, of which the
-/// rest is let go first.
-pub(crate) fn mapped(alloc: Global, program: Program, made: Program) -> Result<Draft, Memory>
-    requires normal { AreNormal made.rules }
-    requires small { size made ≤ 2 ^ 24 }
-    requires within { Within (members program.atoms) (members made.atoms) }
-    ensures ranked { IfOk result (λ d. IsRanked made (formula_of_store d.store 1)) }
+/// The clauses of a program of normal rules, with a map of the given atoms.
+pub(crate) fn mapped(alloc: Global, made: Normalized) -> Result<Draft, Memory>
+    requires normal { AreNormal made.program.rules }
+    requires small { size made.program ≤ 2 ^ 24 }
+    requires within { Within (members made.given) (members made.program.atoms) }
+    ensures ranked { IfOk result (λ d. IsRanked made.program (formula_of_store d.store 1)) }
     ensures cnf { IfOk result (λ d. IsCnf (formula_of_store d.store 1)) }
-    ensures size { IfOk result (λ d. FitsSize made (formula_of_store d.store 1)) }
-    ensures map { IfOk result (λ d. d.map ≡ input_map made program.atoms d.store.vars) }
+    ensures size { IfOk result (λ d. FitsSize made.program (formula_of_store d.store 1)) }
+    ensures map { IfOk result (λ d. d.map ≡ input_map made.program made.given d.store.vars) }
 {
-    let Program {
-        atoms,
-        rules,
-        levels,
-        shows,
-        ..
-    } = program;
-    drop(rules);
-    drop(levels);
-    drop(shows);
-    let store = store_of(alloc, &made)?;
-    let map = input_map(alloc, made, &atoms, store.vars())?;
+    let Normalized { program, given } = made;
+    let store = store_of(alloc, &program)?;
+    let map = input_map(alloc, program, &given, store.vars())?;
     Ok(Draft { store, map })
 }
 

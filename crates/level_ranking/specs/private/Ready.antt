@@ -1,18 +1,26 @@
--- What rankings are made from is that of the program.
-use Rattle.std.specs.Prelude.{◌≡◌, length}
+-- What is given for rankings, and what they are made from, is that of the program.
+use Rattle.std.specs.Prelude.{◌≡◌, ◌≤◌, ◌^◌, length}
 use Rattle.graph_parts.specs.Groups.{AreGroups}
 use Rattle.ground_program.specs.Normal.{AreNormal}
+use Rattle.ground_program.specs.Size.{size}
 use Rattle.components.specs.Parts.{ArePartsOf}
 use Rattle.completion.specs.Completion.{body_literals, completed}
 use Rattle.level_ranking.specs.private.Sources.{is_ranked, width_among, digit_table, heads_from}
+use Rattle.level_ranking.specs.declared.gathering.Given.{Given}
 use Rattle.level_ranking.specs.declared.gathering.Sources.{Sources}
 
+-- the components and the literals are those of the program, which is normal and small
+pub record IsGiven (g : Given) : Type 0 where
+  pub normal : AreNormal g.program.now.rules
+  pub small : size g.program.now ≤ 2 ^ 24
+  pub parts : ArePartsOf g.program.now g.parts.now
+  pub literals : g.bodies.now ≡ body_literals g.program.now
+
 pub record IsReady (s : Sources) : Type 0 where
-  pub normal : AreNormal s.program.now.rules
-  pub parts : ArePartsOf s.program.now s.parts.now
-  pub literals : s.bodies.now ≡ body_literals s.program.now
+  pub given : IsGiven s.given
   pub digits : s.numbers.now
-      ≡ digit_table (is_ranked s.parts.now) (width_among s.parts.now s.program.now.atoms)
-      s.program.now.atoms (completed s.program.now).vars
-  pub heads : AreGroups (heads_from s.program.now.atoms 0 s.program.now.rules)
-      (length s.program.now.atoms) s.heads.now.starts s.heads.now.values
+      ≡ digit_table (is_ranked s.given.parts.now)
+      (width_among s.given.parts.now s.given.program.now.atoms)
+      s.given.program.now.atoms (completed s.given.program.now).vars
+  pub heads : AreGroups (heads_from s.given.program.now.atoms 0 s.given.program.now.rules)
+      (length s.given.program.now.atoms) s.heads.now.starts s.heads.now.values

@@ -1,14 +1,10 @@
 -- The parts of the graph of links are the components of the program.
-use Rattle.std.proofs.Common.{◌≡◌, ℕ, ◌+◌, List, length, Result, Ok, Err, IfOk, ap, ap₂, subst, sym, ◌∙◌}
+use Rattle.std.proofs.Common.{◌≡◌, ℕ, ◌+◌, List, length, ap, ap₂, subst, sym, ◌∙◌}
 use Rattle.graph_parts.specs.Divided.{AreCycles}
 use Rattle.graph_parts.specs.Graph.{AreEdges, has_edge}
 use Rattle.graph_parts.specs.Parts.{ArePartsAmong}
-use Rattle.components.proofs.ComponentLaws.{components-are, links-inside}
+use Rattle.components.proofs.ComponentLaws.{components-are, links-inside, ok-three}
 use Rattle.components.proofs.finding.places.Goals as goal
-
-three : {X E : Type 0} (r : Result X E) (A B C D : X → Type 0) → ((x : X) → A x → B x → C x → D x) → IfOk r A → IfOk r B → IfOk r C → IfOk r D
-three (Ok x) A B C D shown a b c = shown x a b c
-three (Err e) A B C D shown a b c = tt
 
 pub parts_among-requires-clause-edges : goal.parts_among-requires-clause-edges
 parts_among-requires-clause-edges c =
@@ -21,7 +17,7 @@ parts_among-requires-clause-edges c =
 pub returns-clause-components : goal.returns-clause-components
 returns-clause-components c =
     let atoms : c.len-first.result ≡ length c.args.program.now.atoms = c.len-first.ensures.is ∙ ap (λ P. length P.atoms) c.program.view_is in
-    three c.parts_among.result (λ parts. length parts.numbers ≡ c.len-first.result) (λ parts. ArePartsAmong (has_edge c.args.edges.now) parts.numbers parts.count) (λ parts. AreCycles (has_edge c.args.edges.now) parts.numbers parts.cyclic) _
+    ok-three c.parts_among.result (λ parts. length parts.numbers ≡ c.len-first.result) (λ parts. ArePartsAmong (has_edge c.args.edges.now) parts.numbers parts.count) (λ parts. AreCycles (has_edge c.args.edges.now) parts.numbers parts.cyclic) _
     (λ parts sized are cycles. components-are c.args.program.now c.known.ensures.facts parts.numbers parts.count parts.cyclic
     (sized ∙ atoms)
     (subst (λ (es : List (ℕ × ℕ)). ArePartsAmong (has_edge es) parts.numbers parts.count) c.requires.edges are)

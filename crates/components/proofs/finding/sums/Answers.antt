@@ -13,7 +13,7 @@ terms-requires c = rules-measured (Among c.args.atoms.now) c.args.rules.now c.re
 
 pub returns : goal.returns
 returns c =
-    sums-added c.args.rules.now (λ i. members_of i c.args.atoms.now c.args.parts.now.numbers) c.args.parts.now.count
+    sums-added c.args.rules.now (λ i. members_of i c.args.atoms.now c.args.parts.now.numbers) c.args.parts.now
     c.in_ok-weights.weights.items c.in_ok-terms.terms.items c.in_ok-odd.odd.items
     c.in_ok-weights.ensures.sized (c.in_ok-weights.ensures.sums (λ rule. 1) (c.as_slice.ensures.value ∙ c.in_ok-costs.ensures))
     c.in_ok-terms.ensures.sized (c.in_ok-terms.ensures.sums (λ rule. min (term rule) (2 ^ 63)) (c.as_slice-2.ensures.value ∙ c.in_ok-costs-2.ensures))

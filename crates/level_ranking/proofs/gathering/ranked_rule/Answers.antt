@@ -11,17 +11,17 @@ use Rattle.level_ranking.proofs.gathering.ranked_rule.Goals as goal
 
 pub returns : goal.returns
 returns c =
-    let S = component c.args.sources.now.program.now (part_of c.args.sources.now.parts.now) c.args.part in
+    let S = component c.args.sources.now.given.program.now (part_of c.args.sources.now.given.parts.now) c.args.part in
     let rule = c.index-as_slice-place.result in
     let body = c.literal-body.result in
     let atoms_are = ap (λ p. p.atoms) c.program.view_is in
     let rules_are = c.as_slice.ensures ∙ ap (λ p. p.rules) c.program.view_is in
-    let within : c.args.place < length c.args.sources.now.bodies.now = omega (arith, c.requires.within, bodies-length c.args.sources.now c.known.ensures.facts c.requires.ready) in
+    let within : c.args.place < length c.args.sources.now.given.bodies.now = omega (arith, c.requires.within, bodies-length c.args.sources.now c.known.ensures.facts c.requires.ready) in
     let read = subst (λ rules. c.index-as_slice-place.result ≡ get_or rules c.args.place c.index-as_slice-place.result) rules_are c.index-as_slice-place.is in
-    let at = row-at S c.args.sources.now.program.now.rules c.args.sources.now.bodies.now c.args.place rule body c.requires.within read
-    (body-at c.args.sources.now.bodies.now c.args.place (c.from.result + 1) body (omega (arith, c.from.ensures)) within c.literal-body.ensures.none c.literal-body.ensures.literal) in
+    let at = row-at S c.args.sources.now.given.program.now.rules c.args.sources.now.given.bodies.now c.args.place rule body c.requires.within read
+    (body-at c.args.sources.now.given.bodies.now c.args.place (c.from.result + 1) body (omega (arith, c.from.ensures)) within c.literal-body.ensures.none c.literal-body.ensures.literal) in
     let items = c.in_ok-inside.ensures
-    ∙ (ap₂ (λ atoms lits. map (λ b. place atoms b - 1) (once (positive_in (members (atoms_of_part (part_of c.args.sources.now.parts.now) c.args.part atoms)) lits))) atoms_are c.literals.ensures
-    ∙ ap (λ bs. map (λ b. place c.args.sources.now.program.now.atoms b - 1) (once bs)) (body-is S rule.body)) in
+    ∙ (ap₂ (λ atoms lits. map (λ b. place atoms b - 1) (once (positive_in (members (atoms_of_part (part_of c.args.sources.now.given.parts.now) c.args.part atoms)) lits))) atoms_are c.literals.ensures
+    ∙ ap (λ bs. map (λ b. place c.args.sources.now.given.program.now.atoms b - 1) (once bs)) (body-is S rule.body)) in
     let with_places : List ℕ → Row = λ places. record { body = body; inside = places } in
-    ap (λ places. with_places places ∷ []) items ∙ ap (map (placed c.args.sources.now.program.now.atoms)) (sym at)
+    ap (λ places. with_places places ∷ []) items ∙ ap (map (placed c.args.sources.now.given.program.now.atoms)) (sym at)

@@ -6,5 +6,5 @@ use Rattle.level_ranking.proofs.gathering.ranked_rules.Given as goal
 
 abbrev pub invariant-loop-place : goal.invariant-loop-place
 invariant-loop-place l =
-    l.rows.items ++ map (placed l.sources.program.now.atoms) (rows_listed (component l.sources.program.now (part_of l.sources.parts.now) l.part) l.sources.program.now.rules l.sources.bodies.now (drop l.place-index l.places))
-    ≡ map (placed l.sources.program.now.atoms) (rows_listed (component l.sources.program.now (part_of l.sources.parts.now) l.part) l.sources.program.now.rules l.sources.bodies.now l.places)
+    l.rows.items ++ map (placed l.sources.given.program.now.atoms) (rows_listed (component l.sources.given.program.now (part_of l.sources.given.parts.now) l.part) l.sources.given.program.now.rules l.sources.given.bodies.now (drop l.place-index l.places))
+    ≡ map (placed l.sources.given.program.now.atoms) (rows_listed (component l.sources.given.program.now (part_of l.sources.given.parts.now) l.part) l.sources.given.program.now.rules l.sources.given.bodies.now l.places)

@@ -6,4 +6,4 @@ use Rattle.level_ranking.proofs.ranking.add_rankings.Goals as goal
 pub returns-then-not-has_cyclic : goal.returns-then-not-has_cyclic
 returns-then-not-has_cyclic c =
     let none : c.has_cyclic.result ≡ false = search rules in
-    c.requires.store ∙ sym (without_cyclic c.args.program.now c.args.parts.now (c.has_cyclic.ensures none))
+    c.requires.store ∙ sym (without_cyclic c.args.given.program.now c.args.given.parts.now (c.has_cyclic.ensures none))

@@ -15,16 +15,16 @@ returns-in-Ok-clause-wcnf c =
 
 pub returns-in-Ok-clause-size : goal.returns-in-Ok-clause-size
 returns-in-Ok-clause-size c =
-    subst (FitsSize c.args.made) (sym c.finish.ensures)
-    (softened-size c.in_ok-store.field-0.store c.soften.new.store c.levels.result.now c.in-Ok.ensures.2 c.in_ok-store.ensures.cnf c.args.made c.in-Ok.scale.top c.in_ok-store.ensures.size)
+    subst (FitsSize c.args.made.program) (sym c.finish.ensures)
+    (softened-size c.in_ok-store.field-0.store c.soften.new.store c.levels.result.now c.in-Ok.ensures.2 c.in_ok-store.ensures.cnf c.args.made.program c.in-Ok.scale.top c.in_ok-store.ensures.size)
 
 pub returns-in-Ok-clause-fits : goal.returns-in-Ok-clause-fits
 returns-in-Ok-clause-fits c =
-    let levels : c.levels.result.now ≡ map (level_over c.args.made.atoms) c.args.made.levels = c.levels.ensures.levels ∙ ap (λ (m : Symbols). m.levels) c.in_ok-store.ensures.map in
-    map-passes c.args.made c.levels.result.now levels ∙ c.in-Ok.ensures.1
+    let levels : c.levels.result.now ≡ map (level_over c.args.made.program.atoms) c.args.made.program.levels = c.levels.ensures.levels ∙ ap (λ (m : Symbols). m.levels) c.in_ok-store.ensures.map in
+    map-passes c.args.made.program c.levels.result.now levels ∙ c.in-Ok.ensures.1
 
 pub returns-in-Err-clause-passes : goal.returns-in-Err-clause-passes
 returns-in-Err-clause-passes c =
-    let levels : c.levels.result.now ≡ map (level_over c.args.made.atoms) c.args.made.levels = c.levels.ensures.levels ∙ ap (λ (m : Symbols). m.levels) c.in_ok-store.ensures.map in
-    subst (PassesAs c.args.made.levels) (sym c.soft_refusal.ensures)
-    (scaled-passes c.args.made c.levels.result.now c.in_ok-store.field-0.store c.soften.new.store c.in-Err.refusal levels c.in-Err.ensures)
+    let levels : c.levels.result.now ≡ map (level_over c.args.made.program.atoms) c.args.made.program.levels = c.levels.ensures.levels ∙ ap (λ (m : Symbols). m.levels) c.in_ok-store.ensures.map in
+    subst (PassesAs c.args.made.program.levels) (sym c.soft_refusal.ensures)
+    (scaled-passes c.args.made.program c.levels.result.now c.in_ok-store.field-0.store c.soften.new.store c.in-Err.refusal levels c.in-Err.ensures)
