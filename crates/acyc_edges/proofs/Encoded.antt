@@ -1,7 +1,7 @@
 -- What the rules of an encoding say of a set.
 use Rattle.std.proofs.Common.{◌≡◌, refl, sym, ◌∙◌, ap, subst, ℕ, Bool, true, false, not, ◌&&◌, ◌==◌, List, [], ◌∷◌, map, ⊎_elim, inl, inr, ◌⊎◌}
 use Rattle.std.specs.List.{list_any, flat_map}
-use Rattle.std.proofs.lemmas.Bool.{and_parts, and_from, true≢false, eqb-true, eq-eqb, cases_Bool}
+use Rattle.std.proofs.lemmas.Bool.{and_parts, and_from, true≢false, eqb-true, eq-eqb, cases_Bool, not-true}
 use Rattle.asp_base.specs.Literal.{Literal, Pos, Neg, all_hold}
 use Rattle.asp_base.specs.Sets.{Set, members}
 use Rattle.ground_program.specs.Facts.{IsProgram, Among, HeadFits, RuleFits}
@@ -22,10 +22,6 @@ use Rattle.acyc_edges.proofs.Inside.{in-left, in-right, in-append, in-map, map-i
 use Rattle.acyc_edges.proofs.NameLaws.{old-name, num-new, num-one}
 use Rattle.acyc_edges.specs.private.Sources.{Cyc, AreNames}
 use Rattle.acyc_edges.proofs.Sources.{counted-rule}
-
-off : (b : Bool) → not b ≡ true → b ≡ false
-off true h = sym h
-off false h = refl
 
 pub normal-holds : (body : Body) (X M : Set) → IsNormalBody body → holds body X M ≡ all_hold (literals_of body) X M
 normal-holds (All lits) X M n = refl
@@ -64,7 +60,7 @@ module _ (P : Ground) (program : IsProgram P) (normal : AreNormal P.rules) (part
 
   pub kept-in : (rule : Rule) → In rule (kept_rules P part parts) → Keeps_rule rule
   kept-in rule i = let k : In rule P.rules × (not (has_head_in (is_cyclic P part parts) rule.head) ≡ true) = filter-in (λ r. not (has_head_in (is_cyclic P part parts) r.head)) P.rules rule i in
-      record { there = k.0; stays = off (has_head_in (is_cyclic P part parts) rule.head) k.1 }
+      record { there = k.0; stays = not-true (has_head_in (is_cyclic P part parts) rule.head) k.1 }
 
   pub in-kept : (rule : Rule) → In rule P.rules → has_head_in (is_cyclic P part parts) rule.head ≡ false → In rule (kept_rules P part parts)
   in-kept rule i h = in-filter (λ r. not (has_head_in (is_cyclic P part parts) r.head)) P.rules rule i (ap not h)

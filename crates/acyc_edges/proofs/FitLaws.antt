@@ -1,14 +1,15 @@
 -- The names of an encoding speak of the program's atoms and rules.
-use Rattle.std.proofs.Common.{◌≡◌, refl, ap₂, ℕ, ◌<◌, ◌≤◌, ◌^◌, true, List, [], ◌∷◌, map, filter, length, inl, inr, arith}
+use Rattle.std.proofs.Common.{◌≡◌, refl, sym, subst, ap₂, ℕ, ◌<◌, ◌≤◌, ◌^◌, true, List, [], ◌∷◌, map, filter, length, inl, inr, arith}
 use Rattle.std.specs.List.{AllByRecursion, sum_by}
 use Rattle.asp_base.specs.Sets.{members}
 use Rattle.ground_program.specs.Facts.{IsProgram}
 use Rattle.ground_program.specs.Ground.{Ground}
 use Rattle.ground_program.specs.Size.{rule_size, size}
 use Rattle.rising_numbers.proofs.RisingLaws.{members-above}
+use Rattle.tangle_laws.proofs.PartSums.{total, total-le}
 use Rattle.acyc_edges.specs.declared.name.Name.{Name}
 use Rattle.acyc_edges.specs.declared.name.Name.TheVariants.{Atom, Complement, Fires, Chosen, Left, Backed, NoLater, Backs}
-use Rattle.acyc_edges.specs.Encoding.{rules_of, head_at}
+use Rattle.acyc_edges.specs.Encoding.{counted, rule_at, is_head, rules_of, head_at}
 use Rattle.acyc_edges.specs.Names.{is_new, atom_of_name, same_name}
 use Rattle.acyc_edges.specs.private.Numbers.{number_of, numbered}
 use Rattle.acyc_edges.specs.private.Sources.{In, Source, AreNames}
@@ -16,8 +17,9 @@ use Rattle.acyc_edges.specs.private.Tables.{IsOne, HasHead, NameFits}
 use Rattle.acyc_edges.proofs.Inside.{in-any, filter-in, in-each, each-in, in-member, member-in}
 use Rattle.acyc_edges.proofs.NameLaws.{is-same_name}
 use Rattle.acyc_edges.proofs.Numbering.{number-is}
+use Rattle.acyc_edges.proofs.Sources.{is_head-atom}
 use Rattle.acyc_edges.proofs.TableLaws.{rule-below}
-use Rattle.acyc_edges.proofs.Totals.{total, total-le, total-one, total-sum_by}
+use Rattle.acyc_edges.proofs.Totals.{total-one, total-sum_by}
 
 module _ (P : Ground) (program : IsProgram P) (part : ℕ → ℕ) (parts : List ℕ) where
   is-one : (a : ℕ) → members P.atoms a ≡ true → IsOne P a
@@ -40,6 +42,12 @@ module _ (P : Ground) (program : IsProgram P) (part : ℕ → ℕ) (parts : List
 
   pub names-fit : (names : List Name) → AreNames P part parts names → AllByRecursion (NameFits P part) names
   names-fit names are = in-each (NameFits P part) names (λ n h. source-fits names n (are.source n h))
+
+-- the rules of an atom have it as their head
+pub rules-headed : (P : Ground) → IsProgram P → (part : ℕ → ℕ) (a : ℕ) → members P.atoms a ≡ true → AllByRecursion (HasHead P part) (rules_of P part [] a)
+rules-headed P program part a m = in-each (HasHead P part) (rules_of P part [] a)
+    (λ i h. let is : head_at P part [] i ≡ a = is_head-atom (rule_at P.rules i).head a ((filter-in (λ j. is_head (rule_at P.rules j).head a) (counted 0 P.rules) i h).1) in
+    (rule-below P part [] i a h, subst (IsOne P) (sym is) (is-one P program part [] a m), subst (λ b. members (rules_of P part [] b) i ≡ true) (sym is) (in-member (rules_of P part [] a) i h)))
 
 map-same : (f g : Name → ℕ) (names : List Name) → ((n : Name) → In n names → f n ≡ g n) → map f names ≡ map g names
 map-same f g [] h = refl

@@ -10,6 +10,7 @@ pub mod Agreeing
 pub mod Sources
 pub mod Encoded
 pub mod Covered
+pub mod Covering
 pub mod Tight
 pub mod Reached
 pub mod EdgeLaws
@@ -31,4 +32,5 @@ pub mod TangleLaws
 pub mod WrittenLaws
 pub mod CyclicLaws
 pub mod FitLaws
+pub mod KindLaws
 pub mod PartLaws

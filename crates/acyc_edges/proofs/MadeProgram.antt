@@ -4,6 +4,7 @@ use Rattle.std.specs.List.{sum_by, flat_map}
 use Rattle.std.specs.Ordering.{int_eq}
 use Rattle.std.proofs.lemmas.Bool.{cases_Bool, cond-true, cond-false}
 use Rattle.std.proofs.lemmas.Int.{ints}
+use Rattle.std.proofs.lemmas.List.{length-map}
 use Rattle.asp_base.specs.Literal.{Literal, Pos, Neg, atom_of}
 use Rattle.asp_base.specs.Sets.{members}
 use Rattle.ground_program.specs.Facts.{IsProgram, IsPriority, Among, IsShort, LiteralsFit, HeadFits, BodyFits, RuleFits, ConditionFits, LevelFits, ShowFits, FitsWeight}
@@ -22,6 +23,7 @@ use Rattle.ground_program.specs.declared.program.Show.{Show}
 use Rattle.ground_program.proofs.FreshLaws.{new_atom-most, new_atom-positive}
 use Rattle.asp_base.proofs.Each.{each-weaker}
 use Rattle.rising_numbers.proofs.RisingLaws.{RisesFrom-rising, members-rising}
+use Rattle.tangle_laws.proofs.PartSums.{total}
 use Rattle.acyc_edges.specs.Encoding.{into_rising_nodes, nodes_of, literals_of, rule_at, is_cyclic, rules_of, head_at, inner_at, node_of, node_of_atom, bodies_of, limits_of, edges_of, kept_edges, made, plain, unique, plain_names, unique_names}
 use Rattle.acyc_edges.specs.declared.name.Name.{Name}
 use Rattle.acyc_edges.specs.declared.name.Name.TheVariants.{Atom, Complement, Fires, Chosen, Left, Backed, NoLater, Backs}
@@ -35,7 +37,7 @@ use Rattle.acyc_edges.proofs.SourceLaws.{plain-are, unique-are}
 use Rattle.acyc_edges.proofs.Reached.{index-rule, index-normal, index-fits}
 use Rattle.acyc_edges.proofs.SizeLaws.{edge_size, inner-few, body-entries, plain-new, unique-new}
 use Rattle.acyc_edges.specs.private.Sources.{Source, AreNames}
-use Rattle.acyc_edges.proofs.Totals.{total, total-sum_by, length-part}
+use Rattle.acyc_edges.proofs.Totals.{total-sum_by, length-part}
 
 total-member : {A : Type 0} (f : A → ℕ) (xs : List A) (x : A) → In x xs → f x ≤ total f xs
 total-member f [] x i = absurd i
@@ -153,10 +155,6 @@ module _ (P : Ground) (program : IsProgram P) (normal : AreNormal P.rules) (part
       let y : length (inner_at P part parts i) ≤ length (literals_of (rule_at P.rules i).body) = inner-few P program normal part parts rise i a h in
       omega arith
 
-  length-map_is : {A B : Type 0} (f : A → B) (xs : List A) → length (map f xs) ≡ length xs
-  length-map_is f [] = refl
-  length-map_is f (x ∷ xs) = ap suc (length-map_is f xs)
-
   -- ---- bodies
 
   abbrev Body_fits : List Literal → Type 0
@@ -166,7 +164,7 @@ module _ (P : Ground) (program : IsProgram P) (normal : AreNormal P.rules) (part
       → Body_fits (l ∷ map f (inner_at P part parts i))
   with-first l f i a h m k = (
     (let x : 1 + length (inner_at P part parts i) ≤ 2 ^ 24 = inner-small i a h in
-        let y : length (map f (inner_at P part parts i)) ≡ length (inner_at P part parts i) = length-map_is f (inner_at P part parts i) in omega arith),
+        let y : length (map f (inner_at P part parts i)) ≡ length (inner_at P part parts i) = length-map (inner_at P part parts i) f in omega arith),
     (
       m,
       in-each (λ x. Among Q.atoms (atom_of x)) (map f (inner_at P part parts i)) (λ x j.

@@ -2,6 +2,7 @@
 use Rattle.std.proofs.Common.{◌≡◌, refl, sym, ◌∙◌, ap, ap₂, subst, ℕ, suc, ◌≤◌, Bool, true, false, cond, not, ◌==◌, List, [], ◌∷◌, ◌++◌, map, filter, length, length-append, ⊎_elim, inl, inr, arith}
 use Rattle.std.specs.List.{flat_map}
 use Rattle.std.proofs.lemmas.Bool.{true≢false, eq-eqb, cond-true}
+use Rattle.std.proofs.lemmas.List.{append-nil}
 use Rattle.ground_program.specs.Facts.{IsProgram}
 use Rattle.rising_numbers.specs.Rising.{RisesFrom}
 use Rattle.ground_program.specs.Fresh.{new_atom, given_by}
@@ -65,10 +66,6 @@ index-here (m ∷ pre) post n d = go (same_name n m) refl (index-here pre post n
     go false e k = ap suc k
 
 -- the atoms of a front of the new names are the first new atoms
-append-nil : {A : Type 0} (xs : List A) → xs ++ [] ≡ xs
-append-nil [] = refl
-append-nil (x ∷ xs) = ap (λ ys. x ∷ ys) (append-nil xs)
-
 pub append-more : {A : Type 0} (xs ys zs : List A) → (xs ++ ys) ++ zs ≡ xs ++ (ys ++ zs)
 append-more [] ys zs = refl
 append-more (x ∷ xs) ys zs = ap (λ ws. x ∷ ws) (append-more xs ys zs)

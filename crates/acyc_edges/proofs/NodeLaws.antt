@@ -11,6 +11,7 @@ use Rattle.rising_numbers.proofs.RisingLaws.{Ascends-from_rises, rising-is}
 use Rattle.ground_program.specs.Size.{size}
 use Rattle.ground_program.specs.Ground.{Ground}
 use Rattle.ground_program.specs.declared.program.Edge.{Edge}
+use Rattle.tangle_laws.proofs.PartSums.{total}
 use Rattle.acyc_edges.specs.Encoding.{into_rising_nodes, nodes_of}
 use Rattle.acyc_edges.specs.Names.{index_by}
 use Rattle.acyc_edges.specs.private.Nodes.{node_at, ends_of_edges}
@@ -19,7 +20,7 @@ use Rattle.acyc_edges.proofs.CyclicLaws.{place-index}
 use Rattle.acyc_edges.proofs.Inside.{false-from, not-both}
 use Rattle.acyc_edges.proofs.MadeProgram.{nodes-few}
 use Rattle.acyc_edges.proofs.SizeLaws.{edge_size}
-use Rattle.acyc_edges.proofs.Totals.{total, total-sum_by}
+use Rattle.acyc_edges.proofs.Totals.{total-sum_by}
 
 node_at-one : (m n : ℕ) → node_at m ≡ node_at n → m ≡ n
 node_at-one m n e = omega (arith, ints)

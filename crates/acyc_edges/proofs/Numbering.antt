@@ -2,6 +2,7 @@
 use Rattle.std.proofs.Common.{◌≡◌, refl, sym, ◌∙◌, ap, ap₂, subst, ℕ, zero, suc, ◌+◌, ◌≤◌, ◌<◌, Bool, true, false, cond, List, [], ◌∷◌, ◌++◌, map, filter, take, drop, length, length-append, slice_index_or, ⊎_elim, inl, arith}
 use Rattle.std.specs.List.{list_any, flat_map, AllByRecursion}
 use Rattle.std.proofs.lemmas.Bool.{cond-true, cond-false}
+use Rattle.std.proofs.lemmas.List.{length-map}
 use Rattle.ground_program.specs.Fresh.{Supply, taken, least_free, new_atom, given_by}
 use Rattle.ground_program.specs.declared.program.Rule.{Rule}
 use Rattle.acyc_edges.specs.Encoding.{rule_at}
@@ -46,10 +47,6 @@ length-take_le zero xs = omega arith
 length-take_le (suc i) [] = omega arith
 length-take_le (suc i) (x ∷ xs) = let h : length (take i xs) ≤ length xs = length-take_le i xs in omega arith
 
-length-map_same : {A B : Type 0} (f : A → B) (xs : List A) → length (map f xs) ≡ length xs
-length-map_same f [] = refl
-length-map_same f (x ∷ xs) = ap suc (length-map_same f xs)
-
 filter-take : (p : Name → Bool) (i : ℕ) (xs : List Name) → length (filter p (take i xs)) ≤ length (filter p xs)
 filter-take p zero xs = omega arith
 filter-take p (suc i) [] = omega arith
@@ -61,7 +58,7 @@ filter-take p (suc i) (x ∷ xs) = go (p x) (filter-take p i xs)
 
 pub few-given : (f : Name → ℕ) (names : List Name) (i : ℕ) → length (map f (filter is_new (take i names))) ≤ length (filter is_new names)
 few-given f names i =
-    let a : length (map f (filter is_new (take i names))) ≡ length (filter is_new (take i names)) = length-map_same f (filter is_new (take i names)) in
+    let a : length (map f (filter is_new (take i names))) ≡ length (filter is_new (take i names)) = length-map (filter is_new (take i names)) f in
     let b : length (filter is_new (take i names)) ≤ length (filter is_new names) = filter-take is_new i names in omega arith
 
 pub not-numbered : (f : Name → ℕ) (names : List Name) (i : ℕ) (d : Name) → i < length names → IsOnce names

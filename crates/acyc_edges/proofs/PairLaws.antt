@@ -9,12 +9,13 @@ use Rattle.ground_program.specs.declared.program.Body.{Body}
 use Rattle.ground_program.specs.declared.program.Body.TheVariants.{All, Sum}
 use Rattle.ground_program.specs.declared.program.Rule.{Rule}
 use Rattle.ground_program.specs.Dependencies.{positives_of_literals, positives_of_body}
+use Rattle.tangle_laws.proofs.PartSums.{total, total-le, total-both}
 use Rattle.acyc_edges.specs.Encoding.{has_head_in, atoms_in}
 use Rattle.ground_program.specs.Normal.{IsNormalHead, IsNormalBody, AreNormal}
 use Rattle.acyc_edges.specs.private.Pairs.{rules_in, occurrences_in, pairs_in, pairs}
 use Rattle.acyc_edges.proofs.Inside.{each-in, filter-in}
 use Rattle.acyc_edges.proofs.SizeLaws.{length-positives, mul-mono, total-times, total-atoms}
-use Rattle.acyc_edges.proofs.Totals.{total, total-sum_by, total-le, total-same, total-add, total-one, total-part, length-part}
+use Rattle.acyc_edges.proofs.Totals.{total-sum_by, total-same, total-one, total-part, length-part}
 
 turn : (m n : ℕ) → m * n ≡ n * m
 turn m n = grind arith
@@ -33,7 +34,7 @@ module _ (P : Ground) (program : IsProgram P) (normal : AreNormal P.rules) (part
   few : (c : ℕ) → length (atoms_in P part parts c) + length (rules_in P part parts c) + occurrences_in P part parts c ≤ size P
   few c =
       let a : length (atoms_in P part parts c) ≤ length P.atoms = length-part (λ x. part x == c) P.atoms in
-      let x : total (λ rule. 1 + o c rule) (rules_in P part parts c) ≡ total (λ rule. 1) (rules_in P part parts c) + total (o c) (rules_in P part parts c) = total-add (λ rule. 1) (o c) (rules_in P part parts c) in
+      let x : total (λ rule. 1 + o c rule) (rules_in P part parts c) ≡ total (λ rule. 1) (rules_in P part parts c) + total (o c) (rules_in P part parts c) = total-both (λ rule. 1) (o c) (rules_in P part parts c) in
       let y : total (λ rule. 1) (rules_in P part parts c) ≡ length (rules_in P part parts c) = total-one (rules_in P part parts c) in
       let z : total (o c) (rules_in P part parts c) ≡ occurrences_in P part parts c = total-sum_by (o c) (rules_in P part parts c) in
       let w : total (λ rule. 1 + o c rule) (rules_in P part parts c) ≤ total rule_size (rules_in P part parts c) = total-le (λ rule. 1 + o c rule) rule_size (rules_in P part parts c)

@@ -16,15 +16,14 @@ use Rattle.acyc_edges.specs.declared.name.Name.TheVariants.{Fires, Chosen, Backe
 use Rattle.acyc_edges.specs.Names.{atom_of_name}
 use Rattle.ground_program.specs.Normal.{AreNormal}
 use Rattle.acyc_edges.specs.private.Parts.{AreParts}
-use Rattle.acyc_edges.proofs.Covered.{Backing, int_eq-again, cut-stable, cut-names, cut-costs}
-use Rattle.acyc_edges.proofs.EdgeLaws.{edges-acyclic}
+use Rattle.acyc_edges.proofs.Covered.{Backing, int_eq-again}
+use Rattle.acyc_edges.proofs.Covering.{made-covers}
 use Rattle.acyc_edges.proofs.Encoded.{HoldsName, says, limit, fires-says}
 use Rattle.acyc_edges.specs.private.Sources.{In}
 use Rattle.acyc_edges.proofs.Inside.{in-any, in-flat, map-in}
 use Rattle.acyc_edges.proofs.SourceLaws.{plain-are, plain-backed}
-use Rattle.acyc_edges.proofs.Reached as reached
 use Rattle.acyc_edges.specs.private.Sources.{Cyc, Source, AreNames}
-use Rattle.acyc_edges.proofs.Tight.{made-tight, made-stable, stable-supported}
+use Rattle.acyc_edges.proofs.Tight.{made-tight}
 
 module _ (P : Ground) (program : IsProgram P) (normal : AreNormal P.rules) (part : ℕ → ℕ) (parts : List ℕ) (areparts : AreParts P.rules part parts) where
   abbrev names : List Name
@@ -70,16 +69,4 @@ module _ (P : Ground) (program : IsProgram P) (normal : AreNormal P.rules) (part
   plain-tight = made-tight P program normal part parts areparts names are
 
   pub plain-covers : Covers P (plain P part parts)
-  plain-covers = record {
-    stable = λ M s. let t : Supported (plain P part parts) M = stable-supported P program normal part parts areparts names are M s in
-        cut-stable P program normal part parts areparts names are M t s.acyclic (backing M t);
-    names = λ M s. let t : Supported (plain P part parts) M = stable-supported P program normal part parts areparts names are M s in
-        cut-names P program normal part parts areparts names are M t s.acyclic (backing M t);
-    costs = λ M s. let t : Supported (plain P part parts) M = stable-supported P program normal part parts areparts names are M s in
-        cut-costs P program normal part parts areparts names are M t s.acyclic (backing M t);
-    onto = λ N s. (
-      reached.M P program normal part parts names are N s,
-      made-stable P program normal part parts areparts names are (reached.M P program normal part parts names are N s) (reached.M-supported P program normal part parts names are N s) (edges-acyclic P program normal part parts names are N s),
-      reached.M-cut P program normal part parts names are N s,
-    );
-  }
+  plain-covers = made-covers P program normal part parts areparts names are backing

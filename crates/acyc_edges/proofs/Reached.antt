@@ -1,7 +1,7 @@
 -- Each stable set of the program is the cut of a stable set of an encoding, whose edges lead to atoms that are derived before.
 use Rattle.std.proofs.Common.{◌≡◌, refl, sym, ◌∙◌, ap, ap₂, subst, ℕ, Bool, true, false, not, ◌&&◌, ◌||◌, ◌==◌, List, [], ◌∷◌, map, ⊎_elim, inl, inr, ◌⊎◌}
 use Rattle.std.specs.List.{list_any, list_all}
-use Rattle.std.proofs.lemmas.Bool.{and_parts, and_from, or_cases, or_left, true≢false, eqb-true, eq-eqb, cases_Bool, cond-true, cond-false}
+use Rattle.std.proofs.lemmas.Bool.{and_parts, and_from, or_cases, or_left, true≢false, eqb-true, eq-eqb, cases_Bool, cond-true, cond-false, not-true}
 use Rattle.asp_base.specs.Literal.{Literal, Pos, Neg, literal_holds, all_hold}
 use Rattle.asp_base.specs.Sets.{Set, none, members, cut, Same, Within}
 use Rattle.ground_program.specs.Closed.{Closed}
@@ -31,10 +31,6 @@ use Rattle.acyc_edges.specs.private.Sources.{Cyc, Source, AreNames}
 use Rattle.acyc_edges.proofs.Sources.{rule-counted, counted-rule, once-in, in-once, has-is_head, is_head-has, is_head-atom, body-among}
 use Rattle.acyc_edges.proofs.StageOrder.{Gives, no_later, no_later-self, no_later-gives, gives-no_later}
 use Rattle.acyc_edges.proofs.Tight.{Supported-from_Founded}
-
-off : (b : Bool) → not b ≡ true → b ≡ false
-off true h = sym h
-off false h = refl
 
 -- ---- rules of an atom by their indices
 
@@ -210,7 +206,7 @@ module _ (P : Ground) (program : IsProgram P) (normal : AreNormal P.rules) (part
   hold-negatives f [] h b i = absurd i
   hold-negatives f (x ∷ xs) h b i =
       let k : (not (M (num (f x))) ≡ true) × (all_hold (map (λ c. Neg (num (f c))) xs) M M ≡ true) = and_parts _ _ h in
-      ⊎_elim (λ e. subst (λ c. M (num (f c)) ≡ false) e (off _ k.0)) (λ e. hold-negatives f xs k.1 b e) i
+      ⊎_elim (λ e. subst (λ c. M (num (f c)) ≡ false) e (not-true _ k.0)) (λ e. hold-negatives f xs k.1 b e) i
 
   in-part : (a : ℕ) → Cyc P part parts a → inside P part parts N (part a) a ≡ true
   in-part a c = inside-from P program normal part parts (part a) a c.0 refl
@@ -310,7 +306,7 @@ module _ (P : Ground) (program : IsProgram P) (normal : AreNormal P.rules) (part
         lits = Pos (num (Fires x)) ∷ map (λ z. Neg (num (NoLater (head_at P part parts x) z))) (inner_at P part parts x);
         there = inl refl;
         holds = and_from _ _ (M-name (Fires x) s.2 ∙ k.0)
-            (negatives-hold (λ z. NoLater (head_at P part parts x) z) (inner_at P part parts x) (λ z j. M-name (NoLater (head_at P part parts x) z) (s.3 z j) ∙ off _ (all-in _ (inner_at P part parts x) z k.1 j)));
+            (negatives-hold (λ z. NoLater (head_at P part parts x) z) (inner_at P part parts x) (λ z j. M-name (NoLater (head_at P part parts x) z) (s.3 z j) ∙ not-true _ (all-in _ (inner_at P part parts x) z k.1 j)));
       }
 
   first-holds : (l : Literal) (lits : List Literal) (b : List Literal) → (l ∷ lits) ≡ b → all_hold b M M ≡ true → (literal_holds l M M ≡ true) × (all_hold lits M M ≡ true)
@@ -345,7 +341,7 @@ module _ (P : Ground) (program : IsProgram P) (normal : AreNormal P.rules) (part
       let j : (x : ℕ) × In x (rules_of P part parts a) × ((Pos (num (Backs x)) ∷ []) ≡ d.lits) = map-in (λ x. Pos (num (Backs x)) ∷ []) (rules_of P part parts a) d.lits (subst (λ l. In d.lits l) (cond-true (a == c) _ _ e) d.there) in
       let k : (M (num (Backs j.0)) ≡ true) × (true ≡ true) = first-holds (Pos (num (Backs j.0))) [] d.lits j.2 d.holds in
       let v : (holds (rule_at P.rules j.0).body N N ≡ true) × (list_all (λ b. not (le (part a) a b)) (inner_at P part parts j.0) ≡ true) = and_parts _ _ (sym (backs-value j.0 a j.1) ∙ (sym (M-name (Backs j.0) ((s.3 j.0 j.1).0)) ∙ k.0)) in
-      backed a c s.0 s.1 s.2 (record { index = j.0; there = j.1; body = v.0; each = λ z t. subst (λ y. le (part a) y z ≡ false) (eqb-true a c e) (off _ (all-in (λ b. not (le (part a) a b)) (inner_at P part parts j.0) z v.1 t)) }))
+      backed a c s.0 s.1 s.2 (record { index = j.0; there = j.1; body = v.0; each = λ z t. subst (λ y. le (part a) y z ≡ false) (eqb-true a c e) (not-true _ (all-in (λ b. not (le (part a) a b)) (inner_at P part parts j.0) z v.1 t)) }))
       (λ e.
       let j : (x : ℕ) × In x (rules_of P part parts a) × ((Pos (num (Fires x)) ∷ map (λ z. Neg (num (NoLater c z))) (inner_at P part parts x)) ≡ d.lits) = map-in (λ x. Pos (num (Fires x)) ∷ map (λ z. Neg (num (NoLater c z))) (inner_at P part parts x)) (rules_of P part parts a) d.lits (subst (λ l. In d.lits l) (cond-false (a == c) _ _ e) d.there) in
       let k : (M (num (Fires j.0)) ≡ true) × (all_hold (map (λ z. Neg (num (NoLater c z))) (inner_at P part parts j.0)) M M ≡ true) = first-holds (Pos (num (Fires j.0))) _ d.lits j.2 d.holds in
@@ -370,14 +366,14 @@ module _ (P : Ground) (program : IsProgram P) (normal : AreNormal P.rules) (part
       let k : (M (num (Fires x)) ≡ true) × (all_hold (Neg (head_at P part parts x) ∷ []) M M ≡ true) = first-holds (Pos (num (Fires x))) (Neg (head_at P part parts x) ∷ []) lits e h in
       let q : (not (M (head_at P part parts x)) ≡ true) × (true ≡ true) = and_parts _ _ k.1 in
       let n : N (head_at P part parts x) ≡ true = backer-in (λ b. Unit {0}) (head_at P part parts x) (record { index = x; there = s.1; body = sym (M-name (Fires x) i) ∙ k.0; each = λ b t. tt }) in
-      not-both (M (head_at P part parts x)) (M-old (head_at P part parts x) s.0.0 ∙ n) (off _ q.0)) (λ e. e) j
+      not-both (M (head_at P part parts x)) (M-old (head_at P part parts x) s.0.0 ∙ n) (not-true _ q.0)) (λ e. e) j
   no-limit (Chosen a b) lits i j h = j
   no-limit (Left a b) lits i j h = j
   no-limit (Backed a) lits i j h = ⊎_elim (λ e.
       let s : Source P part parts names (Backed a) = are.source (Backed a) i in
       let k : (M a ≡ true) × (all_hold (Neg (num (Backed a)) ∷ []) M M ≡ true) = first-holds (Pos a) (Neg (num (Backed a)) ∷ []) lits e h in
       let q : (not (M (num (Backed a))) ≡ true) × (true ≡ true) = and_parts _ _ k.1 in
-      not-both (N a) (sym (M-old a s.0.0) ∙ k.0) (sym (M-name (Backed a) i) ∙ off _ q.0)) (λ e. e) j
+      not-both (N a) (sym (M-old a s.0.0) ∙ k.0) (sym (M-name (Backed a) i) ∙ not-true _ q.0)) (λ e. e) j
   no-limit (NoLater a c) lits i j h = ⊎_elim
       (λ t. ⊎_elim (λ e.
       let s : Source P part parts names (NoLater a c) = are.source (NoLater a c) i in
@@ -385,7 +381,7 @@ module _ (P : Ground) (program : IsProgram P) (normal : AreNormal P.rules) (part
       let q : (not (M (num (NoLater a c))) ≡ true) × (true ≡ true) = and_parts _ _ k.1 in
       not-both (le (part a) a c)
       (subst (λ y. le (part a) a y ≡ true) (eqb-true a c t) (no_later-self P.rules normal (inside P part parts N (part a)) N closes reaches a (in-part a s.0) (sym (M-old a s.0.0) ∙ k.0)))
-      (sym (M-name (NoLater a c) i) ∙ off _ q.0)) (λ e. e)
+      (sym (M-name (NoLater a c) i) ∙ not-true _ q.0)) (λ e. e)
       (let u : In lits ((Pos a ∷ Neg (num (NoLater a c)) ∷ []) ∷ []) = subst (λ l. In lits l) (cond-true (a == c) _ _ t) j in u))
       (λ t. let u : In lits [] = subst (λ l. In lits l) (cond-false (a == c) _ _ t) j in u)
       (cases_Bool (a == c))

@@ -2,6 +2,7 @@
 use Rattle.std.proofs.Common.{◌≡◌, refl, sym, ◌∙◌, ap, ap₂, subst, ℕ, zero, suc, ◌+◌, ◌*◌, ◌≤◌, nat_lt, Bool, true, false, cond, not, ◌==◌, List, [], ◌∷◌, ◌++◌, map, filter, length, length-append, mul-suc, arith}
 use Rattle.std.specs.List.{sum_by, flat_map}
 use Rattle.std.proofs.lemmas.Bool.{true≢false, eqb-true, eq-eqb}
+use Rattle.std.proofs.lemmas.List.{length-map}
 use Rattle.asp_base.specs.Literal.{Literal, Pos, Neg}
 use Rattle.asp_base.specs.Sets.{members}
 use Rattle.ground_program.specs.Facts.{IsProgram}
@@ -16,6 +17,7 @@ use Rattle.ground_program.specs.declared.program.Head.TheVariants.{Nothing, One,
 use Rattle.ground_program.specs.declared.program.Edge.{Edge}
 use Rattle.ground_program.specs.declared.program.Rule.{Rule}
 use Rattle.ground_program.specs.Dependencies.{positives_of_literals, positives_of_body}
+use Rattle.tangle_laws.proofs.PartSums.{total, total-append, total-le, total-both}
 use Rattle.acyc_edges.specs.Encoding.{once, counted, rule_at, is_head, has_head_in, literals_of, is_cyclic, atoms_in, rules_of, head_at, inner_at, ends_of, both_names, edge_names, plain_names, unique_names, rules_of_name, edges_of, kept_rules, kept_edges, made, plain, unique}
 use Rattle.acyc_edges.specs.declared.name.Name.{Name}
 use Rattle.acyc_edges.specs.declared.name.Name.TheVariants.{Atom, Complement, Fires, Chosen, Left, Backed, NoLater, Backs}
@@ -26,7 +28,7 @@ use Rattle.acyc_edges.specs.private.Sources.{In}
 use Rattle.acyc_edges.proofs.Inside.{filter-in, in-member}
 use Rattle.acyc_edges.proofs.Reached.{index-normal, index-head}
 use Rattle.acyc_edges.proofs.Sources.{counted-suc, is_head-atom}
-use Rattle.acyc_edges.proofs.Totals.{total, total-sum_by, total-append, total-flat, total-map, total-le, total-same, total-add, total-one, total-split, length-part, Apart, rises-apart, filter-apart, total-keys, filter-filter}
+use Rattle.acyc_edges.proofs.Totals.{total-sum_by, total-flat, total-map, total-same, total-one, total-split, length-part, Apart, rises-apart, filter-apart, total-keys, filter-filter}
 
 -- ---- lengths
 
@@ -44,10 +46,6 @@ length-rising [] = omega arith
 length-rising (x ∷ xs) =
     let h : length (rising xs) ≤ length xs = length-rising xs in
     let k : length (into_rising x (rising xs)) ≤ suc (length (rising xs)) = length-into x (rising xs) in omega arith
-
-length-map_is : {A B : Type 0} (f : A → B) (xs : List A) → length (map f xs) ≡ length xs
-length-map_is f [] = refl
-length-map_is f (x ∷ xs) = ap suc (length-map_is f xs)
 
 length-once : (xs : List ℕ) → length (once xs) ≤ length xs
 length-once [] = omega arith
@@ -207,7 +205,7 @@ module _ (P : Ground) (program : IsProgram P) (normal : AreNormal P.rules) (part
     made-atoms =
         let a : length (rising (P.atoms ++ map num (filter is_new names))) ≤ length (P.atoms ++ map num (filter is_new names)) = length-rising (P.atoms ++ map num (filter is_new names)) in
         let b : length (P.atoms ++ map num (filter is_new names)) ≡ length P.atoms + length (map num (filter is_new names)) = length-append P.atoms (map num (filter is_new names)) in
-        let c : length (map num (filter is_new names)) ≡ length (filter is_new names) = length-map_is num (filter is_new names) in
+        let c : length (map num (filter is_new names)) ≡ length (filter is_new names) = length-map (filter is_new names) num in
         let d : length (filter is_new names) ≡ total count_new names = length-new names in
         omega arith
 
@@ -222,8 +220,8 @@ module _ (P : Ground) (program : IsProgram P) (normal : AreNormal P.rules) (part
         ∙ ap₂ ◌+◌ (total-map edge_size _ P.edges) (total-flat edge_size (edges_of P part parts num) names))
 
     weights : total weight names ≡ total count_new names + total (λ n. total rule_size (rules_of_name P part parts num n)) names + total (λ n. total edge_size (edges_of P part parts num n)) names
-    weights = total-add (λ n. count_new n + total rule_size (rules_of_name P part parts num n)) (λ n. total edge_size (edges_of P part parts num n)) names
-        ∙ ap (λ k. k + total (λ n. total edge_size (edges_of P part parts num n)) names) (total-add count_new (λ n. total rule_size (rules_of_name P part parts num n)) names)
+    weights = total-both (λ n. count_new n + total rule_size (rules_of_name P part parts num n)) (λ n. total edge_size (edges_of P part parts num n)) names
+        ∙ ap (λ k. k + total (λ n. total edge_size (edges_of P part parts num n)) names) (total-both count_new (λ n. total rule_size (rules_of_name P part parts num n)) names)
 
     abbrev other_size : ℕ
     other_size = length P.required + total edge_size P.edges + sum_by (λ level. 1 + length level.items) P.levels + sum_by (λ show. 1 + length show.condition) P.shows
@@ -264,7 +262,7 @@ module _ (P : Ground) (program : IsProgram P) (normal : AreNormal P.rules) (part
         total-append rule_size (map (λ lits. record { head = One (num (Backed a)); body = All lits }) (map f (rules_of P part parts a))) _ in
         let y : total rule_size (map (λ lits. record { head = One (num (Backed a)); body = All lits }) (map f (rules_of P part parts a))) ≡ total (λ i. 1 + length (f i)) (rules_of P part parts a) = body-sizes (num (Backed a)) f (rules_of P part parts a) in
         let z : total (λ i. 1 + length (f i)) (rules_of P part parts a) ≡ total (λ i. 2 + p i) (rules_of P part parts a) =
-        total-same (λ i. 1 + length (f i)) (λ i. 2 + p i) (rules_of P part parts a) (λ i j. let l : length (map (λ b. Pos (num (Chosen a b))) (inner_at P part parts i)) ≡ p i = length-map_is (λ b. Pos (num (Chosen a b))) (inner_at P part parts i) in omega arith) in
+        total-same (λ i. 1 + length (f i)) (λ i. 2 + p i) (rules_of P part parts a) (λ i j. let l : length (map (λ b. Pos (num (Chosen a b))) (inner_at P part parts i)) ≡ p i = length-map (inner_at P part parts i) (λ b. Pos (num (Chosen a b))) in omega arith) in
         omega arith
 
     pair-weight : (a c : ℕ) → weight (NoLater a c) ≤ 1 + total (λ i. 2 + p i) (rules_of P part parts a) + cond (a == c) 3 0
@@ -288,12 +286,12 @@ module _ (P : Ground) (program : IsProgram P) (normal : AreNormal P.rules) (part
             total-append rule_size (map (λ lits. record { head = One (num (NoLater a c)); body = All lits }) (map f (rules_of P part parts a))) [] in
             let y : total rule_size (map (λ lits. record { head = One (num (NoLater a c)); body = All lits }) (map f (rules_of P part parts a))) ≡ total (λ i. 1 + length (f i)) (rules_of P part parts a) = body-sizes (num (NoLater a c)) f (rules_of P part parts a) in
             let z : total (λ i. 1 + length (f i)) (rules_of P part parts a) ≡ total (λ i. 2 + p i) (rules_of P part parts a) =
-            total-same (λ i. 1 + length (f i)) (λ i. 2 + p i) (rules_of P part parts a) (λ i j. let l : length (map (λ z. Neg (num (NoLater c z))) (inner_at P part parts i)) ≡ p i = length-map_is (λ z. Neg (num (NoLater c z))) (inner_at P part parts i) in omega arith) in
+            total-same (λ i. 1 + length (f i)) (λ i. 2 + p i) (rules_of P part parts a) (λ i j. let l : length (map (λ z. Neg (num (NoLater c z))) (inner_at P part parts i)) ≡ p i = length-map (inner_at P part parts i) (λ z. Neg (num (NoLater c z))) in omega arith) in
             omega arith
 
     backs-weight : (i : ℕ) → weight (Backs i) ≡ 3 + 3 * p i
     backs-weight i =
-        let x : length (map (λ z. Neg (num (NoLater (head_at P part parts i) z))) (inner_at P part parts i)) ≡ p i = length-map_is (λ z. Neg (num (NoLater (head_at P part parts i) z))) (inner_at P part parts i) in
+        let x : length (map (λ z. Neg (num (NoLater (head_at P part parts i) z))) (inner_at P part parts i)) ≡ p i = length-map (inner_at P part parts i) (λ z. Neg (num (NoLater (head_at P part parts i) z))) in
         let y : total edge_size (edges_of P part parts num (Backs i)) ≡ total (λ b. 2) (inner_at P part parts i) = total-map edge_size _ (inner_at P part parts i) in
         let z : total (λ b. 2) (inner_at P part parts i) ≡ 2 * p i = times 2 (inner_at P part parts i) in
         omega arith
@@ -344,9 +342,9 @@ module _ (P : Ground) (program : IsProgram P) (normal : AreNormal P.rules) (part
       let y : total (λ c. total weight (of c)) parts ≤ total (λ c. more c + (total (λ a. j) (atoms_in P part parts c) + total (λ i. k * (1 + e i)) (heads_in c))) parts =
       total-le (λ c. total weight (of c)) (λ c. more c + (total (λ a. j) (atoms_in P part parts c) + total (λ i. k * (1 + e i)) (heads_in c))) parts (λ c i. h c) in
       let z : total (λ c. more c + (total (λ a. j) (atoms_in P part parts c) + total (λ i. k * (1 + e i)) (heads_in c))) parts ≡ total more parts + total (λ c. total (λ a. j) (atoms_in P part parts c) + total (λ i. k * (1 + e i)) (heads_in c)) parts =
-      total-add more (λ c. total (λ a. j) (atoms_in P part parts c) + total (λ i. k * (1 + e i)) (heads_in c)) parts in
+      total-both more (λ c. total (λ a. j) (atoms_in P part parts c) + total (λ i. k * (1 + e i)) (heads_in c)) parts in
       let w : total (λ c. total (λ a. j) (atoms_in P part parts c) + total (λ i. k * (1 + e i)) (heads_in c)) parts ≡ total (λ c. total (λ a. j) (atoms_in P part parts c)) parts + total (λ c. total (λ i. k * (1 + e i)) (heads_in c)) parts =
-      total-add (λ c. total (λ a. j) (atoms_in P part parts c)) (λ c. total (λ i. k * (1 + e i)) (heads_in c)) parts in
+      total-both (λ c. total (λ a. j) (atoms_in P part parts c)) (λ c. total (λ i. k * (1 + e i)) (heads_in c)) parts in
       let u : total (λ c. total (λ a. j) (atoms_in P part parts c)) parts ≤ total (λ a. j) P.atoms = total-atoms j in
       let v : total (λ a. j) P.atoms ≡ j * length P.atoms = times j P.atoms in
       let s : total (λ c. total (λ i. k * (1 + e i)) (heads_in c)) parts ≤ total (λ i. k * (1 + e i)) (filter (λ i. has_head_in (is_cyclic P part parts) (rule_at P.rules i).head) (counted 0 P.rules)) = total-parts (λ i. k * (1 + e i)) in
@@ -356,16 +354,16 @@ module _ (P : Ground) (program : IsProgram P) (normal : AreNormal P.rules) (part
   -- sums over the rules of one atom
   module _ (xs : List ℕ) where
     five : total (λ i. 5 + e i) xs ≡ 5 * length xs + total e xs
-    five = total-add (λ i. 5) e xs ∙ ap (λ k. k + total e xs) (times 5 xs)
+    five = total-both (λ i. 5) e xs ∙ ap (λ k. k + total e xs) (times 5 xs)
 
     two : total (λ i. 2 + p i) xs ≡ 2 * length xs + total p xs
-    two = total-add (λ i. 2) p xs ∙ ap (λ k. k + total p xs) (times 2 xs)
+    two = total-both (λ i. 2) p xs ∙ ap (λ k. k + total p xs) (times 2 xs)
 
     three : total (λ i. 3 + 3 * p i) xs ≡ 3 * length xs + 3 * total p xs
-    three = total-add (λ i. 3) (λ i. 3 * p i) xs ∙ ap₂ ◌+◌ (times 3 xs) (total-times 3 p xs)
+    three = total-both (λ i. 3) (λ i. 3 * p i) xs ∙ ap₂ ◌+◌ (times 3 xs) (total-times 3 p xs)
 
     whole : (k : ℕ) → total (λ i. k * (1 + e i)) xs ≡ k * (length xs + total e xs)
-    whole k = total-times k (λ i. 1 + e i) xs ∙ ap (λ n. k * n) (total-add (λ i. 1) e xs ∙ ap (λ n. n + total e xs) (total-one xs))
+    whole k = total-times k (λ i. 1 + e i) xs ∙ ap (λ n. k * n) (total-both (λ i. 1) e xs ∙ ap (λ n. n + total e xs) (total-one xs))
 
   total-inner : (a : ℕ) → total p (rules_of P part parts a) ≤ total e (rules_of P part parts a)
   total-inner a = total-le p e (rules_of P part parts a) (λ i h. inner-few i a h)
@@ -387,10 +385,10 @@ module _ (P : Ground) (program : IsProgram P) (normal : AreNormal P.rules) (part
       let a : total (weight names) (flat_map (both_names P part parts) S) ≡ total A S = total-flat (weight names) (both_names P part parts) S in
       let b : total (weight names) (flat_map (edge_names P part parts) S) ≡ total B S = total-flat (weight names) (edge_names P part parts) S in
       let d : total (weight names) (map Backed S) ≡ total C S = total-map (weight names) Backed S in
-      let z : total (λ s. A s + (B s + C s)) S ≡ total A S + total (λ s. B s + C s) S = total-add A (λ s. B s + C s) S in
-      let w : total (λ s. B s + C s) S ≡ total B S + total C S = total-add B C S in
+      let z : total (λ s. A s + (B s + C s)) S ≡ total A S + total (λ s. B s + C s) S = total-both A (λ s. B s + C s) S in
+      let w : total (λ s. B s + C s) S ≡ total B S + total C S = total-both B C S in
       let u : total (λ s. A s + (B s + C s)) S ≤ total (λ s. 11 + total (λ i. 12 * (1 + e i)) (rules_of P part parts s)) S = total-le (λ s. A s + (B s + C s)) (λ s. 11 + total (λ i. 12 * (1 + e i)) (rules_of P part parts s)) S (λ s j. one s) in
-      let v : total (λ s. 11 + total (λ i. 12 * (1 + e i)) (rules_of P part parts s)) S ≡ total (λ s. 11) S + total (λ s. total (λ i. 12 * (1 + e i)) (rules_of P part parts s)) S = total-add (λ s. 11) (λ s. total (λ i. 12 * (1 + e i)) (rules_of P part parts s)) S in
+      let v : total (λ s. 11 + total (λ i. 12 * (1 + e i)) (rules_of P part parts s)) S ≡ total (λ s. 11) S + total (λ s. total (λ i. 12 * (1 + e i)) (rules_of P part parts s)) S = total-both (λ s. 11) (λ s. total (λ i. 12 * (1 + e i)) (rules_of P part parts s)) S in
       let t : total (λ s. total (λ i. 12 * (1 + e i)) (rules_of P part parts s)) S ≤ total (λ i. 12 * (1 + e i)) (heads_in c) = total-rules (λ i. 12 * (1 + e i)) c in
       omega arith
     where
@@ -441,7 +439,7 @@ module _ (P : Ground) (program : IsProgram P) (normal : AreNormal P.rules) (part
       let z : total (λ i. 2 + o c i) (heads_in c) ≡ total (λ rule. 2 + length (filter (λ b. part b == c) (positives_of_body rule.body))) (rules_in P part parts c) =
       total-counted (λ rule. 2 + length (filter (λ b. part b == c) (positives_of_body rule.body))) (λ rule. has_head_in (λ a. part a == c) rule.head) P.rules in
       let w : total (λ rule. 2 + length (filter (λ b. part b == c) (positives_of_body rule.body))) (rules_in P part parts c) ≡ total (λ rule. 2) (rules_in P part parts c) + total (λ rule. length (filter (λ b. part b == c) (positives_of_body rule.body))) (rules_in P part parts c) =
-      total-add (λ rule. 2) (λ rule. length (filter (λ b. part b == c) (positives_of_body rule.body))) (rules_in P part parts c) in
+      total-both (λ rule. 2) (λ rule. length (filter (λ b. part b == c) (positives_of_body rule.body))) (rules_in P part parts c) in
       let u : total (λ rule. 2) (rules_in P part parts c) ≡ 2 * length (rules_in P part parts c) = times 2 (rules_in P part parts c) in
       let v : total (λ rule. length (filter (λ b. part b == c) (positives_of_body rule.body))) (rules_in P part parts c) ≡ occurrences_in P part parts c = total-sum_by (λ rule. length (filter (λ b. part b == c) (positives_of_body rule.body))) (rules_in P part parts c) in
       omega arith
@@ -453,9 +451,9 @@ module _ (P : Ground) (program : IsProgram P) (normal : AreNormal P.rules) (part
       let T : ℕ → ℕ = λ a. total (λ i. 2 + p i) (rules_of P part parts a) in
       let x : total (λ a. total (weight names) (map (NoLater a) (atoms_in P part parts c))) (atoms_in P part parts c) ≤ total (λ a. s * (1 + T a) + 3) (atoms_in P part parts c) =
       total-le (λ a. total (weight names) (map (NoLater a) (atoms_in P part parts c))) (λ a. s * (1 + T a) + 3) (atoms_in P part parts c) (λ a j. one a) in
-      let y : total (λ a. s * (1 + T a) + 3) (atoms_in P part parts c) ≡ total (λ a. s * (1 + T a)) (atoms_in P part parts c) + total (λ a. 3) (atoms_in P part parts c) = total-add (λ a. s * (1 + T a)) (λ a. 3) (atoms_in P part parts c) in
+      let y : total (λ a. s * (1 + T a) + 3) (atoms_in P part parts c) ≡ total (λ a. s * (1 + T a)) (atoms_in P part parts c) + total (λ a. 3) (atoms_in P part parts c) = total-both (λ a. s * (1 + T a)) (λ a. 3) (atoms_in P part parts c) in
       let z : total (λ a. s * (1 + T a)) (atoms_in P part parts c) ≡ s * total (λ a. 1 + T a) (atoms_in P part parts c) = total-times s (λ a. 1 + T a) (atoms_in P part parts c) in
-      let w : total (λ a. 1 + T a) (atoms_in P part parts c) ≡ total (λ a. 1) (atoms_in P part parts c) + total T (atoms_in P part parts c) = total-add (λ a. 1) T (atoms_in P part parts c) in
+      let w : total (λ a. 1 + T a) (atoms_in P part parts c) ≡ total (λ a. 1) (atoms_in P part parts c) + total T (atoms_in P part parts c) = total-both (λ a. 1) T (atoms_in P part parts c) in
       let w2 : total (λ a. 1) (atoms_in P part parts c) ≡ s = total-one (atoms_in P part parts c) in
       let few : total T (atoms_in P part parts c) ≤ 2 * length (rules_in P part parts c) + occurrences_in P part parts c = bodies-few c in
       let m : s * total (λ a. 1 + T a) (atoms_in P part parts c) ≤ s * (2 * (s + length (rules_in P part parts c) + occurrences_in P part parts c)) =
@@ -469,7 +467,7 @@ module _ (P : Ground) (program : IsProgram P) (normal : AreNormal P.rules) (part
           let t : ℕ = 1 + total (λ i. 2 + p i) (rules_of P part parts a) in
           let x : total (weight names) (map (NoLater a) (atoms_in P part parts c)) ≡ total (λ d. weight names (NoLater a d)) (atoms_in P part parts c) = total-map (weight names) (NoLater a) (atoms_in P part parts c) in
           let y : total (λ d. weight names (NoLater a d)) (atoms_in P part parts c) ≤ total (λ d. t + cond (a == d) 3 0) (atoms_in P part parts c) = total-le (λ d. weight names (NoLater a d)) (λ d. t + cond (a == d) 3 0) (atoms_in P part parts c) (λ d j. pair-weight names a d) in
-          let z : total (λ d. t + cond (a == d) 3 0) (atoms_in P part parts c) ≡ total (λ d. t) (atoms_in P part parts c) + total (λ d. cond (a == d) 3 0) (atoms_in P part parts c) = total-add (λ d. t) (λ d. cond (a == d) 3 0) (atoms_in P part parts c) in
+          let z : total (λ d. t + cond (a == d) 3 0) (atoms_in P part parts c) ≡ total (λ d. t) (atoms_in P part parts c) + total (λ d. cond (a == d) 3 0) (atoms_in P part parts c) = total-both (λ d. t) (λ d. cond (a == d) 3 0) (atoms_in P part parts c) in
           let w : total (λ d. t) (atoms_in P part parts c) ≡ length (atoms_in P part parts c) * t = times_turned t (atoms_in P part parts c) in
           let u : total (λ d. cond (a == d) 3 0) (atoms_in P part parts c) ≤ 3 = once-twice a (atoms_in P part parts c) (atoms-apart c) in
           omega arith
@@ -488,9 +486,9 @@ module _ (P : Ground) (program : IsProgram P) (normal : AreNormal P.rules) (part
       let b : total (weight names) (flat_map (λ a. map (NoLater a) (atoms_in P part parts c)) S) ≡ total B S = total-flat (weight names) (λ a. map (NoLater a) (atoms_in P part parts c)) S in
       let d : total (weight names) (flat_map (λ a. map Backs (rules_of P part parts a)) S) ≡ total C S = total-flat (weight names) (λ a. map Backs (rules_of P part parts a)) S in
       let few : total B S ≤ 2 * pairs_in P part parts c + 3 * length (atoms_in P part parts c) = pairs-few names c in
-      let z : total (λ s. A s + C s) S ≡ total A S + total C S = total-add A C S in
+      let z : total (λ s. A s + C s) S ≡ total A S + total C S = total-both A C S in
       let u : total (λ s. A s + C s) S ≤ total (λ s. 5 + total (λ i. 8 * (1 + e i)) (rules_of P part parts s)) S = total-le (λ s. A s + C s) (λ s. 5 + total (λ i. 8 * (1 + e i)) (rules_of P part parts s)) S (λ s j. one s) in
-      let v : total (λ s. 5 + total (λ i. 8 * (1 + e i)) (rules_of P part parts s)) S ≡ total (λ s. 5) S + total (λ s. total (λ i. 8 * (1 + e i)) (rules_of P part parts s)) S = total-add (λ s. 5) (λ s. total (λ i. 8 * (1 + e i)) (rules_of P part parts s)) S in
+      let v : total (λ s. 5 + total (λ i. 8 * (1 + e i)) (rules_of P part parts s)) S ≡ total (λ s. 5) S + total (λ s. total (λ i. 8 * (1 + e i)) (rules_of P part parts s)) S = total-both (λ s. 5) (λ s. total (λ i. 8 * (1 + e i)) (rules_of P part parts s)) S in
       let t : total (λ s. total (λ i. 8 * (1 + e i)) (rules_of P part parts s)) S ≤ total (λ i. 8 * (1 + e i)) (heads_in c) = total-rules (λ i. 8 * (1 + e i)) c in
       let f : total (λ s. 5) S ≡ 5 * length (atoms_in P part parts c) = times 5 S in
       let g : total (λ s. 7) S ≡ 7 * length (atoms_in P part parts c) = times 7 S in

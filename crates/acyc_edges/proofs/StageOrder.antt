@@ -1,7 +1,7 @@
 -- The stages at which the atoms of a component are derived from the rest of the set, as rounds of the one-step operator: which
 -- atom comes no later than which, that the rules say so, and that nothing else meets what they say (Gebser et al. 2014).
 use Rattle.std.proofs.Common.{◌≡◌, refl, sym, ◌∙◌, ap, subst, ℕ, zero, suc, ◌≤◌, ◌<◌, ◌-◌, ◌+◌, Bool, true, false, not, ◌&&◌, ◌||◌, List, [], ◌∷◌, filter, length, ⊎_elim, arith}
-use Rattle.std.proofs.lemmas.Bool.{and_parts, and_from, or_cases, or_left, or_right, true≢false, eqb-true, cases_Bool, cases_lt}
+use Rattle.std.proofs.lemmas.Bool.{and_parts, and_from, or_cases, or_left, or_right, true≢false, eqb-true, cases_Bool, cases_lt, not-true}
 use Rattle.asp_base.specs.Sets.{Set, none, Within}
 use Rattle.asp_base.specs.Walks.{IsWalk, Acyclic}
 use Rattle.ground_program.specs.Closed.{Closed}
@@ -154,10 +154,6 @@ module _ (rules : List Rule) (normal : AreNormal rules) (S M : Set) (closed : Cl
   abbrev pub no_later : ℕ → ℕ → Bool
   no_later a c = later last a c
 
-  off : (b : Bool) → not b ≡ true → b ≡ false
-  off true h = sym h
-  off false h = refl
-
   later-from : (k j a c : ℕ) → j < k → stage (suc j) a ≡ true → stage j c ≡ false → later k a c ≡ true
   later-from zero j a c l h e = absurd (omega arith)
   later-from (suc k) j a c l h e = ⊎_elim (λ d. or_right _ _ (later-from k j a c d h e))
@@ -166,7 +162,7 @@ module _ (rules : List Rule) (normal : AreNormal rules) (S M : Set) (closed : Cl
   later-has : (k a c : ℕ) → later k a c ≡ true → (j : ℕ) × (j < k) × (stage (suc j) a ≡ true) × (stage j c ≡ false)
   later-has zero a c h = absurd (true≢false (sym h))
   later-has (suc k) a c h = ⊎_elim
-      (λ d. let p : (stage (suc k) a ≡ true) × (not (stage k c) ≡ true) = and_parts _ _ d in (k, omega arith, p.0, off (stage k c) p.1))
+      (λ d. let p : (stage (suc k) a ≡ true) × (not (stage k c) ≡ true) = and_parts _ _ d in (k, omega arith, p.0, not-true (stage k c) p.1))
       (λ d. let r : (j : ℕ) × (j < k) × (stage (suc j) a ≡ true) × (stage j c ≡ false) = later-has k a c d in (r.0, (let l : r.0 < k = r.1 in omega arith), r.2, r.3))
       (or_cases (stage (suc k) a && not (stage k c)) (later k a c) h)
 
@@ -220,15 +216,15 @@ module _ (rules : List Rule) (normal : AreNormal rules) (S M : Set) (closed : Cl
 
   walk-earlier : (by : List ℕ) (m a z : ℕ) → m < last → stage (suc m) a ≡ true → IsWalk earlier a by z → stage m z ≡ true
   walk-earlier [] m a z l h w = let k : (M a ≡ true) × ((S a && (S z && not (no_later a z))) ≡ true) = and_parts _ _ w in
-      before m a z l (off (no_later a z) ((and_parts _ _ ((and_parts _ _ k.1).1)).1)) h
+      before m a z l (not-true (no_later a z) ((and_parts _ _ ((and_parts _ _ k.1).1)).1)) h
   walk-earlier (n ∷ by) zero a z l h w =
       let k : (M a ≡ true) × ((S a && (S n && not (no_later a n))) ≡ true) = and_parts _ _ w.0 in
       let j : (S n ≡ true) × (not (no_later a n) ≡ true) = and_parts _ _ ((and_parts _ _ k.1).1) in
-      absurd (not-both (stage 0 n) (before 0 a n l (off (no_later a n) j.1) h) (stage-first n j.0))
+      absurd (not-both (stage 0 n) (before 0 a n l (not-true (no_later a n) j.1) h) (stage-first n j.0))
   walk-earlier (n ∷ by) (suc m) a z l h w =
       let k : (M a ≡ true) × ((S a && (S n && not (no_later a n))) ≡ true) = and_parts _ _ w.0 in
       let j : (S n ≡ true) × (not (no_later a n) ≡ true) = and_parts _ _ ((and_parts _ _ k.1).1) in
-      stage-later m (suc m) z (omega arith) (walk-earlier by m n z (omega arith) (before (suc m) a n l (off (no_later a n) j.1) h) w.1)
+      stage-later m (suc m) z (omega arith) (walk-earlier by m n z (omega arith) (before (suc m) a n l (not-true (no_later a n) j.1) h) w.1)
 
   starts : (a : ℕ) (by : List ℕ) (z : ℕ) → IsWalk earlier a by z → (M a ≡ true) × (S a ≡ true)
   starts a [] z w = let k : (M a ≡ true) × ((S a && (S z && not (no_later a z))) ≡ true) = and_parts _ _ w in (k.0, (and_parts _ _ k.1).0)

@@ -1,7 +1,8 @@
 -- Lookups in the tables.
-use Rattle.std.proofs.Common.{◌≡◌, refl, sym, ◌∙◌, ap, ap₂, subst, ℕ, zero, suc, ◌+◌, ◌<◌, ◌≤◌, Bool, true, false, cond, ◌==◌, List, [], ◌∷◌, ◌++◌, map, filter, take, length, slice_index_or, ⊎_elim, inl, inr, arith}
+use Rattle.std.proofs.Common.{◌≡◌, refl, sym, ◌∙◌, ap, subst, ℕ, zero, suc, ◌+◌, ◌<◌, ◌≤◌, Bool, true, false, cond, ◌==◌, List, [], ◌∷◌, ◌++◌, map, filter, take, length, slice_index_or, ⊎_elim, inl, inr, arith}
 use Rattle.std.specs.List.{flat_map, range_with_len, AllByRecursion}
 use Rattle.std.proofs.lemmas.Bool.{eqb-true, eq-eqb, cond-true, cond-false}
+use Rattle.std.proofs.lemmas.List.{length-map, append-nil}
 use Rattle.asp_base.specs.Sets.{members}
 use Rattle.graph_parts.specs.Groups.{pair_at, values_of}
 use Rattle.components.specs.Components as links
@@ -15,7 +16,6 @@ use Rattle.ground_program.specs.declared.program.Rule.{Rule}
 use Rattle.ground_program.specs.Dependencies.{positives_of_body}
 use Rattle.acyc_edges.specs.Encoding.{once, counted, rule_at, is_head, head_atom, rules_of, inner_at}
 use Rattle.acyc_edges.specs.private.Tables.{with_owner, owner_at, owners_of, inner_by, inner_head}
-use Rattle.acyc_edges.specs.private.Written.{inner_of}
 use Rattle.acyc_edges.specs.private.Sources.{In}
 use Rattle.acyc_edges.proofs.Inside.{each-in, in-each, in-member, flat-in, filter-in, false-from, not-both}
 use Rattle.acyc_edges.proofs.Numbering.{filter-append, flat-append}
@@ -80,7 +80,7 @@ owners-below P program j h =
     owner-below P (rule_at P.rules k.0).head k.0 (pair_at (owners_of P) j) (head-fits P program k.0 k.1) k.2
 
 -- the atoms of a rule's body in the component of its head
-inner-map : (part : ℕ → ℕ) (rules : List Rule) (i : ℕ) → i < length rules → inner_of (map (inner_by part) rules) i ≡ inner_by part (rule_at rules i)
+inner-map : (part : ℕ → ℕ) (rules : List Rule) (i : ℕ) → i < length rules → slice_index_or (map (inner_by part) rules) i [] ≡ inner_by part (rule_at rules i)
 inner-map part [] i h = absurd (omega arith)
 inner-map part (r ∷ rules) zero h = refl
 inner-map part (r ∷ rules) (suc i) h = inner-map part rules i (omega arith)
@@ -98,30 +98,17 @@ inner-head part (One b) bs a h = refl
 inner-head part (Choice as_) bs a h = absurd (not-both true refl (sym h))
 
 module _ (P : Ground) (part : ℕ → ℕ) (parts : List ℕ) where
-  pub inner-is : (inner : List (List ℕ)) (i a : ℕ) → inner ≡ map (inner_by part) P.rules → In i (rules_of P part parts a) → inner_of inner i ≡ inner_at P part parts i
+  pub inner-is : (inner : List (List ℕ)) (i a : ℕ) → inner ≡ map (inner_by part) P.rules → In i (rules_of P part parts a) → slice_index_or inner i [] ≡ inner_at P part parts i
   inner-is inner i a e h =
       let k : In i (counted 0 P.rules) × (is_head (rule_at P.rules i).head a ≡ true) = filter-in (λ j. is_head (rule_at P.rules j).head a) (counted 0 P.rules) i h in
       let below : i < 0 + length P.rules = counted-below 0 P.rules i k.0 in
-      ap (λ ls. inner_of ls i) e ∙ (inner-map part P.rules i (omega arith) ∙ inner-head part (rule_at P.rules i).head (positives_of_body (rule_at P.rules i).body) a k.1)
+      ap (λ ls. slice_index_or ls i []) e ∙ (inner-map part P.rules i (omega arith) ∙ inner-head part (rule_at P.rules i).head (positives_of_body (rule_at P.rules i).body) a k.1)
 
   pub rule-below : (i a : ℕ) → In i (rules_of P part parts a) → i < length P.rules
   rule-below i a h = let below : i < 0 + length P.rules = counted-below 0 P.rules i ((filter-in (λ j. is_head (rule_at P.rules j).head a) (counted 0 P.rules) i h).0) in omega arith
 
-pub flat-same : {A B : Type 0} (f g : A → List B) (xs : List A) → ((x : A) → In x xs → f x ≡ g x) → flat_map f xs ≡ flat_map g xs
-flat-same f g [] h = refl
-flat-same f g (x ∷ xs) h = ap₂ (λ ys zs. ys ++ zs) (h x (inl refl)) (flat-same f g xs (λ y i. h y (inr i)))
-
-length-map_rules : (f : Rule → List ℕ) (rules : List Rule) → length (map f rules) ≡ length rules
-length-map_rules f [] = refl
-length-map_rules f (r ∷ rules) = ap suc (length-map_rules f rules)
-
-module _ (P : Ground) (part : ℕ → ℕ) (parts : List ℕ) (inner : List (List ℕ)) (is : inner ≡ map (inner_by part) P.rules) where
-  pub rules-below : (a : ℕ) → AllByRecursion (λ i. i < length inner) (rules_of P part parts a)
-  rules-below a = in-each (λ i. i < length inner) (rules_of P part parts a)
-      (λ i h. let below : i < length P.rules = rule-below P part parts i a h in let long : length inner ≡ length P.rules = ap length is ∙ length-map_rules (inner_by part) P.rules in omega arith)
-
-  pub flat-inner : (a : ℕ) → flat_map (inner_of inner) (rules_of P part parts a) ≡ flat_map (inner_at P part parts) (rules_of P part parts a)
-  flat-inner a = flat-same (inner_of inner) (inner_at P part parts) (rules_of P part parts a) (λ i h. inner-is P part parts inner i a is h)
+pub inner-length : (P : Ground) (part : ℕ → ℕ) (inner : List (List ℕ)) → inner ≡ map (inner_by part) P.rules → length inner ≡ length P.rules
+inner-length P part inner is = ap length is ∙ length-map P.rules (inner_by part)
 
 pub part-among : (p : ℕ → Bool) (atoms : List ℕ) → AllByRecursion (Among atoms) (filter p atoms)
 part-among p atoms = in-each (Among atoms) (filter p atoms) (λ a h. in-member atoms a ((filter-in p atoms a h).0))
@@ -137,12 +124,8 @@ part-more f p n =
     ∙ (ap (λ xs. flat_map f (filter p xs)) (range-more 1 n ∙ ap (λ k. range_with_len 1 n ++ (k ∷ [])) (let e : 1 + n ≡ n + 1 = omega arith in e))
     ∙ (ap (flat_map f) (filter-append p (range_with_len 1 n) ((n + 1) ∷ [])) ∙ flat-append f (filter p (range_with_len 1 n)) (filter p ((n + 1) ∷ []))))
 
-pub nil-end : {A : Type 0} (xs : List A) → xs ++ [] ≡ xs
-nil-end [] = refl
-nil-end (x ∷ xs) = ap (λ ys. x ∷ ys) (nil-end xs)
-
 pub part-taken : {B : Type 0} (f : ℕ → List B) (p : ℕ → Bool) (n : ℕ) → p (n + 1) ≡ true → flat_map f (filter p (range_with_len 1 n)) ++ f (n + 1) ≡ flat_map f (filter p (range_with_len 1 (n + 1)))
-part-taken f p n h = ap (λ xs. flat_map f (filter p (range_with_len 1 n)) ++ xs) (sym (ap (flat_map f) (cond-true (p (n + 1)) _ _ h) ∙ nil-end (f (n + 1)))) ∙ sym (part-more f p n)
+part-taken f p n h = ap (λ xs. flat_map f (filter p (range_with_len 1 n)) ++ xs) (sym (ap (flat_map f) (cond-true (p (n + 1)) _ _ h) ∙ append-nil (f (n + 1)))) ∙ sym (part-more f p n)
 
 pub part-left : {B : Type 0} (f : ℕ → List B) (p : ℕ → Bool) (n : ℕ) → p (n + 1) ≡ false → flat_map f (filter p (range_with_len 1 n)) ≡ flat_map f (filter p (range_with_len 1 (n + 1)))
-part-left f p n h = sym (nil-end (flat_map f (filter p (range_with_len 1 n)))) ∙ (ap (λ xs. flat_map f (filter p (range_with_len 1 n)) ++ xs) (sym (ap (flat_map f) (cond-false (p (n + 1)) _ _ h))) ∙ sym (part-more f p n))
+part-left f p n h = sym (append-nil (flat_map f (filter p (range_with_len 1 n)))) ∙ (ap (λ xs. flat_map f (filter p (range_with_len 1 n)) ++ xs) (sym (ap (flat_map f) (cond-false (p (n + 1)) _ _ h))) ∙ sym (part-more f p n))

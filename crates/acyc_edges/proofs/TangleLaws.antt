@@ -16,12 +16,13 @@ use Rattle.ground_program.specs.Tangle as tangle
 use Rattle.ground_program.specs.declared.program.Head.{Head}
 use Rattle.ground_program.specs.declared.program.Head.TheVariants.{Nothing, One, Choice}
 use Rattle.ground_program.specs.declared.program.Rule.{Rule}
+use Rattle.tangle_laws.proofs.PartSums.{total, total-both}
 use Rattle.acyc_edges.specs.Components.{part_of}
 use Rattle.acyc_edges.specs.Encoding.{has_head_in}
 use Rattle.acyc_edges.specs.private.Pairs.{rules_in, occurrences_in, pairs_in, pairs}
 use Rattle.acyc_edges.specs.private.Sources.{In}
 use Rattle.acyc_edges.proofs.Inside.{each-in}
-use Rattle.acyc_edges.proofs.Totals.{total, total-sum_by, total-map, total-same, total-add, total-one}
+use Rattle.acyc_edges.proofs.Totals.{total-sum_by, total-map, total-same, total-one}
 
 total-cond : {A : Type 0} (p : A → Bool) (f : A → ℕ) (xs : List A) → total (λ x. cond (p x) (f x) 0) xs ≡ total f (filter p xs)
 total-cond p f [] = refl
@@ -68,7 +69,7 @@ module _ (P : Ground) (program : IsProgram P) (normal : AreNormal P.rules) (numb
       ∙ (total-same (λ rule. cond (enters (members_of c P.atoms numbers) rule) (1 + occurrences (members_of c P.atoms numbers) rule) 0) (λ rule. cond (heads c rule) (1 + o c rule) 0) P.rules
       (λ rule i. ap₂ (λ (b : Bool) n. cond b (1 + n) 0) (enters-is c rule i) (occurs-is c rule i))
       ∙ (total-cond (heads c) (λ rule. 1 + o c rule) P.rules
-      ∙ (total-add (λ rule. 1) (o c) (rules_in P part parts c)
+      ∙ (total-both (λ rule. 1) (o c) (rules_in P part parts c)
       ∙ ap₂ (λ m n. m + n) (total-one (rules_in P part parts c)) (total-sum_by (o c) (rules_in P part parts c)))))
 
   part-is : (c : ℕ) → part_pairs P.rules (members_of c P.atoms numbers) ≡ pairs_in P part parts c

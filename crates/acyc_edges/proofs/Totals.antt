@@ -1,22 +1,14 @@
--- Sums over lists.
-use Rattle.std.proofs.Common.{◌≡◌, refl, sym, ◌∙◌, ap, ap₂, subst, ℕ, ◌+◌, ◌≤◌, ◌<◌, Bool, true, false, cond, not, List, [], ◌∷◌, ◌++◌, map, filter, length, ⊎_elim, inl, inr, arith}
+-- Sums over lists, beside those of `tangle_laws`.
+use Rattle.std.proofs.Common.{◌≡◌, refl, sym, ◌∙◌, ap, ap₂, subst, ℕ, ◌+◌, ◌≤◌, ◌<◌, Bool, true, false, cond, not, List, [], ◌∷◌, map, filter, length, ⊎_elim, inl, inr, arith}
 use Rattle.std.specs.List.{sum_by, flat_map}
 use Rattle.std.proofs.lemmas.Bool.{cases_Bool, cond-true, cond-false}
-use Rattle.std.proofs.lemmas.List.Recursion.{is_sum_by}
 use Rattle.rising_numbers.specs.Rising.{RisesFrom}
+use Rattle.tangle_laws.proofs.PartSums.{total, total-append, sum_by-total}
 use Rattle.acyc_edges.specs.private.Sources.{In}
 use Rattle.acyc_edges.proofs.Inside.{filter-in, not-both}
 
-abbrev pub total : {A : Type 0} → (A → ℕ) → List A → ℕ
-total f [] = 0
-total f (x ∷ xs) = f x + total f xs
-
 pub total-sum_by : {A : Type 0} (f : A → ℕ) (xs : List A) → total f xs ≡ sum_by f xs
-total-sum_by f xs = is_sum_by (total f) f refl (λ x ys. refl) xs
-
-pub total-append : {A : Type 0} (f : A → ℕ) (xs ys : List A) → total f (xs ++ ys) ≡ total f xs + total f ys
-total-append f [] ys = omega arith
-total-append f (x ∷ xs) ys = let k : total f (xs ++ ys) ≡ total f xs + total f ys = total-append f xs ys in omega arith
+total-sum_by f xs = sym (sum_by-total f xs)
 
 pub total-flat : {A B : Type 0} (f : B → ℕ) (g : A → List B) (xs : List A) → total f (flat_map g xs) ≡ total (λ x. total f (g x)) xs
 total-flat f g [] = refl
@@ -26,19 +18,9 @@ pub total-map : {A B : Type 0} (f : B → ℕ) (g : A → B) (xs : List A) → t
 total-map f g [] = refl
 total-map f g (x ∷ xs) = ap (λ n. f (g x) + n) (total-map f g xs)
 
-pub total-le : {A : Type 0} (f g : A → ℕ) (xs : List A) → ((x : A) → In x xs → f x ≤ g x) → total f xs ≤ total g xs
-total-le f g [] h = omega arith
-total-le f g (x ∷ xs) h =
-    let k : f x ≤ g x = h x (inl refl) in
-    let r : total f xs ≤ total g xs = total-le f g xs (λ y i. h y (inr i)) in omega arith
-
 pub total-same : {A : Type 0} (f g : A → ℕ) (xs : List A) → ((x : A) → In x xs → f x ≡ g x) → total f xs ≡ total g xs
 total-same f g [] h = refl
 total-same f g (x ∷ xs) h = ap₂ ◌+◌ (h x (inl refl)) (total-same f g xs (λ y i. h y (inr i)))
-
-pub total-add : {A : Type 0} (f g : A → ℕ) (xs : List A) → total (λ x. f x + g x) xs ≡ total f xs + total g xs
-total-add f g [] = refl
-total-add f g (x ∷ xs) = let k : total (λ y. f y + g y) xs ≡ total f xs + total g xs = total-add f g xs in omega arith
 
 pub total-one : {A : Type 0} (xs : List A) → total (λ x. 1) xs ≡ length xs
 total-one [] = refl

@@ -2,7 +2,7 @@
 use Rattle.std.proofs.Common.{◌≡◌, refl, sym, ◌∙◌, ap, subst, ℕ, Bool, true, false, not, ◌&&◌, ◌==◌, List, [], ◌∷◌, ◌++◌, map, ⊎_elim, inl, inr}
 use Rattle.std.specs.List.{list_all, flat_map}
 use Rattle.std.specs.Ordering.{int_eq}
-use Rattle.std.proofs.lemmas.Bool.{and_parts, and_from, true≢false, eqb-true, eq-eqb, cases_Bool, cond-true, cond-false}
+use Rattle.std.proofs.lemmas.Bool.{and_parts, and_from, true≢false, eqb-true, eq-eqb, cases_Bool, cond-true, cond-false, not-true}
 use Rattle.asp_base.specs.Literal.{Pos, Neg, all_hold}
 use Rattle.asp_base.specs.Sets.{Set, members, cut, Same, Within}
 use Rattle.asp_base.specs.Walks.{Acyclic}
@@ -20,8 +20,8 @@ use Rattle.acyc_edges.specs.Names.{atom_of_name}
 use Rattle.ground_program.specs.Normal.{AreNormal}
 use Rattle.acyc_edges.specs.private.Parts.{AreParts}
 use Rattle.acyc_edges.proofs.Agreeing.{holds-agree}
-use Rattle.acyc_edges.proofs.Covered.{Backing, int_eq-again, cut-stable, cut-names, cut-costs}
-use Rattle.acyc_edges.proofs.EdgeLaws.{edges-acyclic}
+use Rattle.acyc_edges.proofs.Covered.{Backing, int_eq-again}
+use Rattle.acyc_edges.proofs.Covering.{made-covers}
 use Rattle.acyc_edges.proofs.Encoded.{HoldsName, step-cases, from-kept, says, hears, limit, fires-says, fires-hears}
 use Rattle.acyc_edges.specs.private.Sources.{In}
 use Rattle.acyc_edges.proofs.Inside.{in-append, in-any, in-flat, flat-in, in-map, map-in, in-all, all-in, each-in}
@@ -30,11 +30,7 @@ use Rattle.acyc_edges.proofs.Reached as reached
 use Rattle.acyc_edges.proofs.Reached.{Backer, inside, inside-from, inside-part, index-rule, index-head, backer-from, from-backer}
 use Rattle.acyc_edges.specs.private.Sources.{Cyc, Source, AreNames}
 use Rattle.acyc_edges.proofs.StageOrder.{no_later-only}
-use Rattle.acyc_edges.proofs.Tight.{made-tight, made-stable, stable-supported}
-
-off : (b : Bool) → not b ≡ true → b ≡ false
-off true h = sym h
-off false h = refl
+use Rattle.acyc_edges.proofs.Tight.{made-tight, stable-supported}
 
 -- the kinds of names that stand in the second encoding
 is_unique : Name → Bool
@@ -81,7 +77,7 @@ module _ (P : Ground) (program : IsProgram P) (normal : AreNormal P.rules) (part
     hold-negatives f [] h b i = absurd i
     hold-negatives f (x ∷ xs) h b i =
         let k : (not (M (num (f x))) ≡ true) × (all_hold (map (λ c. Neg (num (f c))) xs) M M ≡ true) = and_parts _ _ h in
-        ⊎_elim (λ e. subst (λ c. M (num (f c)) ≡ false) e (off _ k.0)) (λ e. hold-negatives f xs k.1 b e) i
+        ⊎_elim (λ e. subst (λ c. M (num (f c)) ≡ false) e (not-true _ k.0)) (λ e. hold-negatives f xs k.1 b e) i
 
     negatives-hold : (f : ℕ → Name) (xs : List ℕ) → ((b : ℕ) → In b xs → M (num (f b)) ≡ false) → all_hold (map (λ b. Neg (num (f b))) xs) M M ≡ true
     negatives-hold f [] h = refl
@@ -232,7 +228,7 @@ module _ (P : Ground) (program : IsProgram P) (normal : AreNormal P.rules) (part
           (λ e. let q : (M (num (Fires i)) ≡ true) × ((b : ℕ) → In b (inner_at P part parts i) → M (num (NoLater (head_at P part parts i) b)) ≡ false) = backs-says i h e in
           and_from _ _ (sym (fires-is i s.2) ∙ q.0) (in-all _ (inner_at P part parts i) (λ b j. ap not (sym (pair-is (head_at P part parts i) b (s.3 b j)) ∙ q.1 b j))))
           (λ e. let q : (holds (rule_at P.rules i).body N N ≡ true) × (list_all (λ b. not (le (part (head_at P part parts i)) (head_at P part parts i) b)) (inner_at P part parts i) ≡ true) = and_parts _ _ e in
-          backs-hears i h (fires-is i s.2 ∙ q.0) (λ b j. pair-is (head_at P part parts i) b (s.3 b j) ∙ off _ (all-in (λ b. not (le (part (head_at P part parts i)) (head_at P part parts i) b)) (inner_at P part parts i) b q.1 j)))
+          backs-hears i h (fires-is i s.2 ∙ q.0) (λ b j. pair-is (head_at P part parts i) b (s.3 b j) ∙ not-true _ (all-in (λ b. not (le (part (head_at P part parts i)) (head_at P part parts i) b)) (inner_at P part parts i) b q.1 j)))
 
       -- each name says what it says of the stable set
       name-is : (n : Name) → In n names → is_unique n ≡ true → M (num n) ≡ reached.value P program normal part parts names are N stable n
@@ -250,19 +246,7 @@ module _ (P : Ground) (program : IsProgram P) (normal : AreNormal P.rules) (part
   unique-tight = made-tight P program normal part parts areparts names are
 
   pub unique-covers : Covers P (unique P part parts)
-  unique-covers = record {
-    stable = λ M s. let t : Supported (unique P part parts) M = stable-supported P program normal part parts areparts names are M s in
-        cut-stable P program normal part parts areparts names are M t s.acyclic (backing M t);
-    names = λ M s. let t : Supported (unique P part parts) M = stable-supported P program normal part parts areparts names are M s in
-        cut-names P program normal part parts areparts names are M t s.acyclic (backing M t);
-    costs = λ M s. let t : Supported (unique P part parts) M = stable-supported P program normal part parts areparts names are M s in
-        cut-costs P program normal part parts areparts names are M t s.acyclic (backing M t);
-    onto = λ N s. (
-      reached.M P program normal part parts names are N s,
-      made-stable P program normal part parts areparts names are (reached.M P program normal part parts names are N s) (reached.M-supported P program normal part parts names are N s) (edges-acyclic P program normal part parts names are N s),
-      reached.M-cut P program normal part parts names are N s,
-    );
-  }
+  unique-covers = made-covers P program normal part parts areparts names are backing
 
   -- what one of two stable sets with the same old atoms has, the other has
   other-has : (M K : Set) → Stable (unique P part parts) M → Stable (unique P part parts) K → Same (cut P.atoms M) (cut P.atoms K) → Within M K

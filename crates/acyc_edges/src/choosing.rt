@@ -17,9 +17,8 @@ ghost use Rattle.acyc_edges.specs.Components.{part_of};
 ghost use Rattle.acyc_edges.specs.Encoding.{plain};
 ghost use Rattle.acyc_edges.specs.Staying.{StayFirst};
 
-use crate::made::made;
-use crate::names::plain_names;
-use crate::tables::tables_of;
+use crate::kind::Kind;
+use crate::made::encoded;
 use asp_base::Memory;
 use components::Parts;
 use ground_program::Program;
@@ -49,8 +48,6 @@ pub fn plain(alloc: Global, program: &Program, parts: &Parts) -> Result<Program,
     ensures size { IfOk result (λ made. size made ≤ 12 * size program.now) }
 {
     program.known();
-    let tables = tables_of(alloc, program, parts)?;
-    let names = plain_names(alloc, program, parts, &tables)?;
-    let made = made(alloc, program, parts, &tables, names.as_slice())?;
+    let made = encoded(alloc, program, parts, Kind::Plain)?;
     Ok(made)
 }

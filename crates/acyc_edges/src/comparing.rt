@@ -19,32 +19,15 @@ ghost use Rattle.acyc_edges.specs.Encoding.{unique};
 ghost use Rattle.acyc_edges.specs.Refused.{UniqueRefused};
 ghost use Rattle.acyc_edges.specs.Staying.{StayFirst};
 
-use crate::made::made;
+use crate::kind::Kind;
+use crate::made::encoded;
 use crate::refusal::UniqueRefusal;
-use crate::tables::tables_of;
-use crate::unique_names::unique_names;
-use asp_base::Memory;
 use components::{Parts, pairs};
 use ground_program::Program;
 use std::alloc::Global;
 
 /// Of more pairs no program is made.
 const MOST_PAIRS: u64 = 1 << 24;
-
-/// The program that compares stages.
-fn compared(alloc: Global, program: &Program, parts: &Parts) -> Result<Program, Memory>
-    requires normal { AreNormal program.now.rules }
-    requires parts { ArePartsOf program.now parts.now }
-    requires small { size program.now ≤ 2 ^ 24 }
-    requires few { pairs program.now.rules (cyclic_parts parts.now) ≤ 2 ^ 24 }
-    ensures { IfOk result (λ made. made ≡ unique program.now (part_of parts.now) (cyclic_numbers parts.now)) }
-{
-    program.known();
-    let tables = tables_of(alloc, program, parts)?;
-    let names = unique_names(alloc, program, parts, &tables)?;
-    let made = made(alloc, program, parts, &tables, names.as_slice())?;
-    Ok(made)
-}
 
 /// Replaces the positive recursion of a normal program by edges that follow from its stages. Cut to the atoms of the
 /// given program, the stable models of the made one are one to one those of the given one, with their names and costs.
@@ -80,6 +63,6 @@ pub fn unique(alloc: Global, program: &Program, parts: &Parts) -> Result<Program
     if count > MOST_PAIRS {
         return Err(UniqueRefusal::TooManyPairs { pairs: count });
     }
-    let made = compared(alloc, program, parts)?;
+    let made = encoded(alloc, program, parts, Kind::Unique)?;
     Ok(made)
 }

@@ -7,202 +7,159 @@ ghost use Rattle.ground_program.specs.declared.program.Head.TheVariants.{Nothing
 ghost use Rattle.ground_program.specs.declared.program.Body.TheVariants.{All};
 ghost use Rattle.acyc_edges.specs.declared.name.Name.TheVariants.{Fires, Backed, NoLater, Backs};
 ghost use Rattle.acyc_edges.specs.Components.{part_of};
-ghost use Rattle.acyc_edges.specs.Encoding.{rules_of_name};
+ghost use Rattle.acyc_edges.specs.Encoding.{inner_at, rules_of};
 ghost use Rattle.acyc_edges.specs.private.Numbers.{number_of};
-ghost use Rattle.acyc_edges.specs.private.Tables.{AreTables, HasHead, IsOne, NameFits};
+ghost use Rattle.acyc_edges.specs.private.Setting.{rules_by};
+ghost use Rattle.acyc_edges.specs.private.Tables.{HasHead, IsOne, NameFits};
+ghost use Rattle.acyc_edges.specs.private.Written.{backing_rule, self_rule};
 
-use crate::bodies::later_body;
-use crate::listed::{push_backing, push_later, push_self};
+use crate::bodies::{chosen_body, later_body};
 use crate::name::Name;
-use crate::numbers::Numbers;
 use crate::rules::{literals, push_limit, push_rule};
-use crate::tables::{Tables, head_of, inner_of, rule_of, rules_of};
+use crate::writer::Writer;
 use asp_base::{Lit, Memory};
-use components::Parts;
-use ground_program::{Body, Head, Program, Rule, RuleList};
-use std::alloc::Global;
+use ground_program::{Body, Head, Rule, RuleList};
 
 /// A rule fires where its body holds, and its head must hold then.
-fn push_fires(
-    alloc: Global,
-    rules: &mut RuleList,
-    numbers: &Numbers,
-    program: &Program,
-    parts: &Parts,
-    index: u32,
-) -> Result<(), Memory>
-    requires { HasHead program.now (part_of parts.now) index }
+fn push_fires(rules: &mut RuleList, writer: &Writer<'_>, index: u32) -> Result<(), Memory>
+    requires { HasHead writer.now.setting.now.program (part_of writer.now.setting.now.parts) index }
     ensures { OnOk result (rules.new ≡ rules.old
-        ++ rules_of_name program.now (part_of parts.now) [] (number_of numbers.now) (Fires index)) }
+        ++ rules_by writer.now.setting.now writer.now.numbers.now (Fires index)) }
 {
-    let fires = numbers.of(Name::Fires(index));
-    let rule = rule_of(program, index);
-    push_rule(alloc, rules, Head::One(fires), literals(&rule.body))?;
-    push_limit(alloc, rules, fires, head_of(program, parts, index))?;
+    let fires = writer.numbers.of(Name::Fires(index));
+    let rule = writer.setting.rule_of(index);
+    push_rule(writer.alloc, rules, Head::One(fires), literals(&rule.body))?;
+    push_limit(writer.alloc, rules, fires, writer.setting.head_of(index))?;
+    Ok(())
+}
+
+/// An atom is backed by each of its rules that fires with its edges chosen.
+fn push_backing(rules: &mut RuleList, writer: &Writer<'_>, atom: u32) -> Result<(), Memory>
+    requires { IsOne writer.now.setting.now.program atom }
+    ensures { OnOk result (let P = writer.now.setting.now.program in let part = part_of writer.now.setting.now.parts in
+        rules.new ≡ rules.old
+        ++ map (backing_rule writer.now.numbers.now (inner_at P part []) atom) (rules_of P part [] atom)) }
+{
+    let backed = writer.numbers.of(Name::Backed(atom));
+    for index in writer.setting.rules_of(atom) {
+        let inner = writer.setting.inner_of(*index);
+        let body = chosen_body(writer.alloc, writer.numbers, *index, atom, inner)?;
+        rules.push(Rule {
+            head: Head::One(backed),
+            body: Body::All(body),
+        })?;
+    }
     Ok(())
 }
 
 /// An atom is backed by each of its rules that fires with all of its edges chosen, and where it holds, it must be.
-fn push_backed(
-    alloc: Global,
-    rules: &mut RuleList,
-    numbers: &Numbers,
-    program: &Program,
-    parts: &Parts,
-    tables: &Tables,
-    atom: u32,
-) -> Result<(), Memory>
-    requires tables { AreTables program.now (part_of parts.now) tables.now }
-    requires one { IsOne program.now atom }
+fn push_backed(rules: &mut RuleList, writer: &Writer<'_>, atom: u32) -> Result<(), Memory>
+    requires { IsOne writer.now.setting.now.program atom }
     ensures { OnOk result (rules.new ≡ rules.old
-        ++ rules_of_name program.now (part_of parts.now) [] (number_of numbers.now) (Backed atom)) }
+        ++ rules_by writer.now.setting.now writer.now.numbers.now (Backed atom)) }
 {
-    let indices = rules_of(program, parts, tables, atom);
-    push_backing(
-        alloc,
+    push_backing(rules, writer, atom)?;
+    push_limit(
+        writer.alloc,
         rules,
-        numbers,
-        tables.inner.as_slice(),
         atom,
-        indices,
+        writer.numbers.of(Name::Backed(atom)),
     )?;
-    push_limit(alloc, rules, atom, numbers.of(Name::Backed(atom)))?;
+    Ok(())
+}
+
+/// An atom comes no later than itself by each of its rules that backs it.
+fn push_self(rules: &mut RuleList, writer: &Writer<'_>, atom: u32) -> Result<(), Memory>
+    requires { IsOne writer.now.setting.now.program atom }
+    ensures { OnOk result (rules.new ≡ rules.old ++ map (self_rule writer.now.numbers.now atom)
+        (rules_of writer.now.setting.now.program (part_of writer.now.setting.now.parts) [] atom)) }
+{
+    let earlier = writer.numbers.of(Name::NoLater(atom, atom));
+    for index in writer.setting.rules_of(atom) {
+        push_rule(
+            writer.alloc,
+            rules,
+            Head::One(earlier),
+            &[Lit::positive(writer.numbers.of(Name::Backs(*index)))],
+        )?;
+    }
     Ok(())
 }
 
 /// Where an atom holds, it must come no later than itself.
-fn push_held(
-    alloc: Global,
-    rules: &mut RuleList,
-    numbers: &Numbers,
-    atom: u32,
-) -> Result<(), Memory>
+fn push_held(rules: &mut RuleList, writer: &Writer<'_>, atom: u32) -> Result<(), Memory>
     requires { (0 < atom) × (atom < 2 ^ 31) }
     ensures { OnOk result (rules.new ≡ rules.old ++ (record {
       head = Nothing;
-      body = All (Pos atom ∷ Neg (number_of numbers.now (NoLater atom atom)) ∷ []);
+      body = All (Pos atom ∷ Neg (number_of writer.now.numbers.now (NoLater atom atom)) ∷ []);
     } ∷ [])) }
 {
-    push_limit(alloc, rules, atom, numbers.of(Name::NoLater(atom, atom)))
+    push_limit(
+        writer.alloc,
+        rules,
+        atom,
+        writer.numbers.of(Name::NoLater(atom, atom)),
+    )
 }
 
 /// An atom comes no later than itself by each of its rules that backs it, and where it holds, it must.
-fn push_same(
-    alloc: Global,
-    rules: &mut RuleList,
-    numbers: &Numbers,
-    program: &Program,
-    parts: &Parts,
-    tables: &Tables,
-    atom: u32,
-) -> Result<(), Memory>
-    requires tables { AreTables program.now (part_of parts.now) tables.now }
-    requires one { IsOne program.now atom }
+fn push_same(rules: &mut RuleList, writer: &Writer<'_>, atom: u32) -> Result<(), Memory>
+    requires { IsOne writer.now.setting.now.program atom }
     ensures { OnOk result (rules.new ≡ rules.old
-        ++ rules_of_name program.now (part_of parts.now) [] (number_of numbers.now) (NoLater atom atom)) }
+        ++ rules_by writer.now.setting.now writer.now.numbers.now (NoLater atom atom)) }
 {
-    let indices = rules_of(program, parts, tables, atom);
-    push_self(alloc, rules, numbers, atom, indices)?;
-    push_held(alloc, rules, numbers, atom)?;
+    push_self(rules, writer, atom)?;
+    push_held(rules, writer, atom)?;
     Ok(())
 }
 
 /// An atom comes no later than another by each of its rules that fires with all of its atoms before the other.
 fn push_other(
-    alloc: Global,
     rules: &mut RuleList,
-    numbers: &Numbers,
-    program: &Program,
-    parts: &Parts,
-    tables: &Tables,
+    writer: &Writer<'_>,
     atom: u32,
     other: u32,
 ) -> Result<(), Memory>
-    requires tables { AreTables program.now (part_of parts.now) tables.now }
-    requires one { IsOne program.now atom }
+    requires one { IsOne writer.now.setting.now.program atom }
     requires differ { atom ≢ other }
     ensures { OnOk result (rules.new ≡ rules.old
-        ++ rules_of_name program.now (part_of parts.now) [] (number_of numbers.now) (NoLater atom other)) }
+        ++ rules_by writer.now.setting.now writer.now.numbers.now (NoLater atom other)) }
 {
-    let indices = rules_of(program, parts, tables, atom);
-    push_later(
-        alloc,
-        rules,
-        numbers,
-        tables.inner.as_slice(),
-        atom,
-        other,
-        indices,
-    )?;
+    let earlier = writer.numbers.of(Name::NoLater(atom, other));
+    for index in writer.setting.rules_of(atom) {
+        let inner = writer.setting.inner_of(*index);
+        let body = later_body(writer.alloc, writer.numbers, *index, other, inner)?;
+        rules.push(Rule {
+            head: Head::One(earlier),
+            body: Body::All(body),
+        })?;
+    }
     Ok(())
 }
 
-fn push_no_later(
-    alloc: Global,
-    rules: &mut RuleList,
-    numbers: &Numbers,
-    program: &Program,
-    parts: &Parts,
-    tables: &Tables,
-    atom: u32,
-    other: u32,
-) -> Result<(), Memory>
-    requires tables { AreTables program.now (part_of parts.now) tables.now }
-    requires one { IsOne program.now atom }
-    ensures { OnOk result (rules.new ≡ rules.old
-        ++ rules_of_name program.now (part_of parts.now) [] (number_of numbers.now) (NoLater atom other)) }
-{
-    if atom == other {
-        push_same(alloc, rules, numbers, program, parts, tables, atom)
-    } else {
-        push_other(alloc, rules, numbers, program, parts, tables, atom, other)
-    }
-}
-
 /// A rule backs its head where it fires and its head comes later than each of its atoms.
-fn push_backs(
-    alloc: Global,
-    rules: &mut RuleList,
-    numbers: &Numbers,
-    program: &Program,
-    parts: &Parts,
-    tables: &Tables,
-    index: u32,
-) -> Result<(), Memory>
-    requires tables { AreTables program.now (part_of parts.now) tables.now }
-    requires head { HasHead program.now (part_of parts.now) index }
+fn push_backs(rules: &mut RuleList, writer: &Writer<'_>, index: u32) -> Result<(), Memory>
+    requires { HasHead writer.now.setting.now.program (part_of writer.now.setting.now.parts) index }
     ensures { OnOk result (rules.new ≡ rules.old
-        ++ rules_of_name program.now (part_of parts.now) [] (number_of numbers.now) (Backs index)) }
+        ++ rules_by writer.now.setting.now writer.now.numbers.now (Backs index)) }
 {
-    let body = later_body(
-        alloc,
-        numbers,
-        index,
-        head_of(program, parts, index),
-        inner_of(program, parts, tables, index),
-    )?;
+    let head = writer.setting.head_of(index);
+    let inner = writer.setting.inner_of(index);
+    let body = later_body(writer.alloc, writer.numbers, index, head, inner)?;
     rules.push(Rule {
-        head: Head::One(numbers.of(Name::Backs(index))),
+        head: Head::One(writer.numbers.of(Name::Backs(index))),
         body: Body::All(body),
     })?;
     Ok(())
 }
 
 /// Puts the rules of a name behind the others.
-fn push_named(
-    alloc: Global,
-    rules: &mut RuleList,
-    numbers: &Numbers,
-    program: &Program,
-    parts: &Parts,
-    tables: &Tables,
-    name: Name,
-) -> Result<(), Memory>
-    requires tables { AreTables program.now (part_of parts.now) tables.now }
-    requires fits { NameFits program.now (part_of parts.now) name }
-    ensures { OnOk result (rules.new ≡ rules.old
-        ++ rules_of_name program.now (part_of parts.now) [] (number_of numbers.now) name) }
+fn push_named(rules: &mut RuleList, writer: &Writer<'_>, name: Name) -> Result<(), Memory>
+    requires { NameFits writer.now.setting.now.program (part_of writer.now.setting.now.parts) name }
+    ensures { OnOk result (rules.new ≡ rules.old ++ rules_by writer.now.setting.now writer.now.numbers.now name) }
 {
+    let alloc = writer.alloc;
+    let numbers = writer.numbers;
     match name {
         Name::Atom(atom) => push_rule(
             alloc,
@@ -216,7 +173,7 @@ fn push_named(
             Head::One(numbers.of(Name::Complement(atom))),
             &[Lit::positive(atom).negate()],
         ),
-        Name::Fires(index) => push_fires(alloc, rules, numbers, program, parts, index),
+        Name::Fires(index) => push_fires(rules, writer, index),
         Name::Chosen(from, to) => push_rule(
             alloc,
             rules,
@@ -233,31 +190,42 @@ fn push_named(
             Head::One(numbers.of(Name::Left(from, to))),
             &[Lit::positive(numbers.of(Name::Chosen(from, to))).negate()],
         ),
-        Name::Backed(atom) => push_backed(alloc, rules, numbers, program, parts, tables, atom),
-        Name::NoLater(atom, other) => push_no_later(
-            alloc, rules, numbers, program, parts, tables, atom, other,
-        ),
-        Name::Backs(index) => push_backs(alloc, rules, numbers, program, parts, tables, index),
+        Name::Backed(atom) => push_backed(rules, writer, atom),
+        Name::NoLater(atom, other) => push_no_later(rules, writer, atom, other),
+        Name::Backs(index) => push_backs(rules, writer, index),
+    }
+}
+
+fn push_no_later(
+    rules: &mut RuleList,
+    writer: &Writer<'_>,
+    atom: u32,
+    other: u32,
+) -> Result<(), Memory>
+    requires { IsOne writer.now.setting.now.program atom }
+    ensures { OnOk result (rules.new ≡ rules.old
+        ++ rules_by writer.now.setting.now writer.now.numbers.now (NoLater atom other)) }
+{
+    if atom == other {
+        push_same(rules, writer, atom)
+    } else {
+        push_other(rules, writer, atom, other)
     }
 }
 
 /// The rules of all of these names.
 pub(crate) fn push_all_named(
-    alloc: Global,
     rules: &mut RuleList,
-    numbers: &Numbers,
-    program: &Program,
-    parts: &Parts,
-    tables: &Tables,
+    writer: &Writer<'_>,
     names: &[Name],
 ) -> Result<(), Memory>
-    requires tables { AreTables program.now (part_of parts.now) tables.now }
-    requires fit { AllByRecursion (NameFits program.now (part_of parts.now)) names.now }
+    requires { AllByRecursion
+        (NameFits writer.now.setting.now.program (part_of writer.now.setting.now.parts)) names.now }
     ensures { OnOk result (rules.new ≡ rules.old
-        ++ flat_map (rules_of_name program.now (part_of parts.now) [] (number_of numbers.now)) names.now) }
+        ++ flat_map (rules_by writer.now.setting.now writer.now.numbers.now) names.now) }
 {
     for name in names {
-        push_named(alloc, rules, numbers, program, parts, tables, *name)?;
+        push_named(rules, writer, *name)?;
     }
     Ok(())
 }

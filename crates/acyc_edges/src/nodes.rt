@@ -6,7 +6,7 @@ ghost use Rattle.components.specs.Divided.{cyclic_numbers};
 ghost use Rattle.components.specs.Parts.{ArePartsOf};
 ghost use Rattle.ground_program.specs.Size.{size};
 ghost use Rattle.acyc_edges.specs.Components.{part_of};
-ghost use Rattle.acyc_edges.specs.Encoding.{is_cyclic, node_of, node_of_atom, nodes_of};
+ghost use Rattle.acyc_edges.specs.Encoding.{is_cyclic, nodes_of};
 ghost use Rattle.acyc_edges.specs.Names.{index_by};
 ghost use Rattle.acyc_edges.specs.private.Nodes.{AreNodes, ends_of_edges, node_at};
 
@@ -24,18 +24,11 @@ pub(crate) struct Nodes {
     pub(crate) cyclic: RisingNumbers,
 }
 
-/// The node at which an edge begins, as a number that is not negative: 2^31 higher.
-fn raised_from(edge: &Edge) -> u32
-    ensures { node_at result ≡ edge.now.from }
+/// A node as a number that is not negative: 2^31 higher.
+pub(crate) fn raised(node: i32) -> u32
+    ensures { node_at result ≡ node }
 {
-    (edge.from as i64 + (1 << 31)) as u32
-}
-
-/// The same of the node at which it ends.
-fn raised_to(edge: &Edge) -> u32
-    ensures { node_at result ≡ edge.now.to }
-{
-    (edge.to as i64 + (1 << 31)) as u32
+    (node as i64 + (1 << 31)) as u32
 }
 
 /// The nodes of the program's edges, in ascending order.
@@ -53,8 +46,8 @@ fn ends_of_edges(alloc: Global, edges: &[Edge]) -> Result<Vec<u32>, Memory>
 {
     let mut ends = Vec::new(alloc);
     for edge in edges {
-        ends.push(raised_from(edge))?;
-        ends.push(raised_to(edge))?;
+        ends.push(raised(edge.from))?;
+        ends.push(raised(edge.to))?;
     }
     Ok(ends)
 }
@@ -98,7 +91,7 @@ pub(crate) fn nodes_for(alloc: Global, program: &Program, parts: &Parts) -> Resu
 }
 
 /// The index of a number; the count of all where it is not among them.
-fn index_of(numbers: &RisingNumbers, number: u32) -> usize
+pub(crate) fn index_of(numbers: &RisingNumbers, number: u32) -> usize
     ensures is { result ≡ index_by ◌==◌ numbers.now number }
     ensures most { result ≤ length numbers.now }
 {
@@ -108,34 +101,9 @@ fn index_of(numbers: &RisingNumbers, number: u32) -> usize
     }
 }
 
-fn signed(node: usize) -> i32
+pub(crate) fn signed(node: usize) -> i32
     requires { node < 2 ^ 31 }
     ensures { result ≡ pos node }
 {
     node as i32
-}
-
-/// The node of an atom.
-pub(crate) fn node_of_atom(program: &Program, parts: &Parts, nodes: &Nodes, atom: u32) -> i32
-    requires { AreNodes program.now (part_of parts.now) (cyclic_numbers parts.now) nodes.now }
-    ensures { result ≡ node_of_atom program.now (part_of parts.now) (cyclic_numbers parts.now) atom }
-{
-    program.known();
-    signed(nodes.given.len() + index_of(&nodes.cyclic, atom))
-}
-
-/// The new number of a node at which an edge of the program begins.
-pub(crate) fn new_from(program: &Program, parts: &Parts, nodes: &Nodes, edge: &Edge) -> i32
-    requires { AreNodes program.now (part_of parts.now) (cyclic_numbers parts.now) nodes.now }
-    ensures { result ≡ node_of program.now (part_of parts.now) (cyclic_numbers parts.now) edge.now.from }
-{
-    signed(index_of(&nodes.given, raised_from(edge)))
-}
-
-/// The new number of a node at which an edge of the program ends.
-pub(crate) fn new_to(program: &Program, parts: &Parts, nodes: &Nodes, edge: &Edge) -> i32
-    requires { AreNodes program.now (part_of parts.now) (cyclic_numbers parts.now) nodes.now }
-    ensures { result ≡ node_of program.now (part_of parts.now) (cyclic_numbers parts.now) edge.now.to }
-{
-    signed(index_of(&nodes.given, raised_to(edge)))
 }

@@ -2,16 +2,13 @@
 //! with a counting sort, and the atoms of each rule's body in the component of its head. Linear in the program, but for
 //! the look-up of places, which takes constant time where the numbers of the atoms lie close together.
 
-ghost use Rattle.std.specs.Prelude.{◌≡◌, ◌==◌, ◌<◌, ◌^◌, [], ◌++◌, true, map, length, IfOk, OnOk};
-ghost use Rattle.std.specs.List.{filter, AllByRecursion};
-ghost use Rattle.asp_base.specs.Sets.{members};
-ghost use Rattle.components.specs.Components.{node_of};
+ghost use Rattle.std.specs.Prelude.{◌≡◌, ◌==◌, ◌<◌, ◌≤◌, ◌^◌, ◌++◌, map, length, IfOk, OnOk};
+ghost use Rattle.std.specs.List.{filter};
 ghost use Rattle.components.specs.Parts.{ArePartsOf};
 ghost use Rattle.ground_program.specs.Facts.{Among, HeadFits, LiteralsFit, RuleFits};
 ghost use Rattle.ground_program.specs.Dependencies.{positives_of_literals};
-ghost use Rattle.acyc_edges.specs.Encoding.{inner_at, rules_of, rule_at, head_at, head_atom};
 ghost use Rattle.ground_program.specs.Normal.{AreNormal, IsNormalBody, IsNormalHead};
-ghost use Rattle.acyc_edges.specs.private.Tables.{AreTables, HasHead, inner_by, owners_of, with_owner};
+ghost use Rattle.acyc_edges.specs.private.Tables.{AreTables, inner_by, owners_of, with_owner};
 ghost use Rattle.acyc_edges.specs.Components.{part_of};
 
 use crate::once::each_once;
@@ -27,18 +24,6 @@ use std::alloc::Global;
 pub(crate) struct Tables {
     pub owners: Groups,
     pub inner: Vec<AtomList>,
-}
-
-/// The place of an atom, from 0.
-fn place_of(atoms: &Atoms, atom: u32) -> u32
-    requires { members atoms.now atom ≡ true }
-    ensures is { result ≡ node_of atoms.now atom }
-    ensures within { result < length atoms.now }
-{
-    let Some(place) = atoms.place(atom) else {
-        unreachable!()
-    };
-    place - 1
 }
 
 /// Each rule with one head, behind the place of its head.
@@ -61,10 +46,11 @@ fn push_owner(
     head: &Head,
 ) -> Result<(), Memory>
     requires fit { HeadFits (Among atoms.now) head.now }
+    requires few { length atoms.now ≤ 2 ^ 30 }
     ensures { OnOk result (pairs.new.items ≡ pairs.old.items ++ with_owner atoms.now index head.now) }
 {
     if let Head::One(atom) = head {
-        pairs.push((place_of(atoms, *atom), index))?;
+        pairs.push((atoms.index_of(*atom) as u32, index))?;
     }
     Ok(())
 }
@@ -127,64 +113,4 @@ pub(crate) fn tables_of(alloc: Global, program: &Program, parts: &Parts) -> Resu
     let owners = grouped(alloc, pairs.as_slice(), program.atoms.len())?;
     let inner = inner(alloc, program, parts)?;
     Ok(Tables { owners, inner })
-}
-
-/// The rule at an index.
-pub(crate) fn rule_of(program: &Program, index: u32) -> &Rule
-    requires { index < length program.now.rules }
-    ensures { result.now ≡ rule_at program.now.rules index }
-{
-    &program.rules.as_slice()[index as usize]
-}
-
-/// The atom of a head; 0 where it is not one.
-fn atom_of(head: &Head) -> u32
-    ensures { result ≡ head_atom head.now }
-{
-    match head {
-        Head::One(atom) => *atom,
-        _ => 0,
-    }
-}
-
-/// The head of a rule of an atom.
-pub(crate) fn head_of(program: &Program, parts: &Parts, index: u32) -> u32
-    requires { HasHead program.now (part_of parts.now) index }
-    ensures is { result ≡ head_at program.now (part_of parts.now) [] index }
-    ensures above { 0 < result }
-    ensures below { result < 2 ^ 31 }
-{
-    atom_of(&rule_of(program, index).head)
-}
-
-/// The positive atoms of the body of a rule of an atom in the component of its head, each once.
-pub(crate) fn inner_of<'a>(
-    program: &Program,
-    parts: &Parts,
-    tables: &'a Tables,
-    index: u32,
-) -> &'a [u32]
-    requires tables { AreTables program.now (part_of parts.now) tables.now }
-    requires head { HasHead program.now (part_of parts.now) index }
-    ensures { result.now ≡ inner_at program.now (part_of parts.now) [] index }
-{
-    tables.inner[index as usize].as_slice()
-}
-
-/// The indices of an atom's rules, rising.
-pub(crate) fn rules_of<'a>(
-    program: &Program,
-    parts: &Parts,
-    tables: &'a Tables,
-    atom: u32,
-) -> &'a [u32]
-    requires tables { AreTables program.now (part_of parts.now) tables.now }
-    requires among { members program.now.atoms atom ≡ true }
-    ensures are { result.now ≡ rules_of program.now (part_of parts.now) [] atom }
-    ensures below { AllByRecursion (λ i. i < length tables.now.inner.items) result.now }
-{
-    program.known();
-    let place = place_of(&program.atoms, atom) as usize;
-    let starts = tables.owners.starts.as_slice();
-    &tables.owners.values.as_slice()[starts[place]..starts[place + 1]]
 }

@@ -6,4 +6,4 @@ use Rattle.acyc_edges.specs.Encoding.{node_of}
 use Rattle.acyc_edges.proofs.edges.kept_edges.Given as goal
 
 abbrev pub invariant-loop-edge : goal.invariant-loop-edge
-invariant-loop-edge l = l.edges ≡ map (λ edge. record { from = node_of l.program (part_of l.parts) (cyclic_numbers l.parts) edge.from; to = node_of l.program (part_of l.parts) (cyclic_numbers l.parts) edge.to; condition = edge.condition }) (take l.edge-index l.program.edges)
+invariant-loop-edge l = l.edges ≡ map (λ edge. record { from = node_of l.setting.program (part_of l.setting.parts) (cyclic_numbers l.setting.parts) edge.from; to = node_of l.setting.program (part_of l.setting.parts) (cyclic_numbers l.setting.parts) edge.to; condition = edge.condition }) (take l.edge-index l.setting.program.edges)

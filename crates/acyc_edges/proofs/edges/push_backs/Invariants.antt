@@ -11,5 +11,5 @@ use Rattle.acyc_edges.proofs.edges.push_backs.Given as goal
 abbrev pub invariant-loop-to : goal.invariant-loop-to
 invariant-loop-to l =
     l.edges ≡ l.initial.edges
-    ++ map (λ b. record { from = node_of_atom l.program (part_of l.parts) (cyclic_numbers l.parts) (head_at l.program (part_of l.parts) [] l.index); to = node_of_atom l.program (part_of l.parts) (cyclic_numbers l.parts) b; condition = Pos (number_of l.numbers (Backs l.index)) ∷ [] })
-    (take l.to-index (inner_at l.program (part_of l.parts) [] l.index))
+    ++ map (λ b. record { from = node_of_atom l.writer.setting.now.program (part_of l.writer.setting.now.parts) (cyclic_numbers l.writer.setting.now.parts) (head_at l.writer.setting.now.program (part_of l.writer.setting.now.parts) [] l.index); to = node_of_atom l.writer.setting.now.program (part_of l.writer.setting.now.parts) (cyclic_numbers l.writer.setting.now.parts) b; condition = Pos (number_of l.writer.numbers.now (Backs l.index)) ∷ [] })
+    (take l.to-index (inner_at l.writer.setting.now.program (part_of l.writer.setting.now.parts) [] l.index))

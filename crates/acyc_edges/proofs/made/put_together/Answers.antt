@@ -9,8 +9,9 @@ use Rattle.acyc_edges.proofs.made.put_together.Goals as goal
 
 pub invariant_of-result : goal.invariant_of-result
 invariant_of-result c =
-    let required : c.in_ok-required.required ≡ c.args.program.now.required = c.in_ok-required.ensures ∙ (c.as_slice.ensures ∙ ap (λ g. g.required) c.program.view_is) in
-    let levels : c.in_ok-levels.levels ≡ c.args.program.now.levels = c.in_ok-levels.ensures ∙ (c.as_slice-2.ensures ∙ ap (λ g. g.levels) c.program.view_is) in
-    let shows : c.in_ok-shows.shows ≡ c.args.program.now.shows = c.in_ok-shows.ensures ∙ (c.as_slice-3.ensures ∙ ap (λ g. g.shows) c.program.view_is) in
+    let is = c.program.view_is ∙ c.program-program.ensures in
+    let required : c.in_ok-required.required ≡ c.args.setting.now.program.required = c.in_ok-required.ensures ∙ (c.as_slice.ensures ∙ ap (λ g. g.required) is) in
+    let levels : c.in_ok-levels.levels ≡ c.args.setting.now.program.levels = c.in_ok-levels.ensures ∙ (c.as_slice-2.ensures ∙ ap (λ g. g.levels) is) in
+    let shows : c.in_ok-shows.shows ≡ c.args.setting.now.program.shows = c.in_ok-shows.ensures ∙ (c.as_slice-3.ensures ∙ ap (λ g. g.shows) is) in
     rw (c.requires.atoms, c.requires.rules, required, c.requires.edges, levels, shows)
-    (made-is_program c.args.program.now c.known.ensures.facts c.requires.normal (part_of c.args.parts.now) (cyclic_numbers c.args.parts.now) (rises-parts (is_cyclic_at c.args.parts.now.cyclic) c.args.parts.now.count) c.args.names.now c.requires.names c.requires.small c.requires.room)
+    (made-is_program c.args.setting.now.program c.known.ensures.program c.known.ensures.normal (part_of c.args.setting.now.parts) (cyclic_numbers c.args.setting.now.parts) (rises-parts (is_cyclic_at c.args.setting.now.parts.cyclic) c.args.setting.now.parts.count) c.args.names.now c.requires.names c.known.ensures.small c.requires.room)

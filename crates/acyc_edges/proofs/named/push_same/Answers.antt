@@ -1,9 +1,8 @@
 -- What is left to show of `push_same`.
-use Rattle.std.proofs.Common.{◌++◌, [], ◌∷◌, map, ap, ◌∙◌}
+use Rattle.std.proofs.Common.{◌++◌, [], ◌∷◌, ap, ◌∙◌}
 use Rattle.acyc_edges.specs.Components.{part_of}
 use Rattle.acyc_edges.specs.declared.name.Name.TheVariants.{NoLater}
 use Rattle.acyc_edges.specs.private.Numbers.{number_of}
-use Rattle.acyc_edges.specs.private.Written.{self_rule}
 use Rattle.acyc_edges.proofs.NameOrder.{append-more}
 use Rattle.acyc_edges.proofs.WrittenLaws.{same-name, limit}
 use Rattle.acyc_edges.proofs.named.push_same.Goals as goal
@@ -11,7 +10,6 @@ use Rattle.acyc_edges.proofs.named.push_same.Goals as goal
 pub returns : goal.returns
 returns c =
     c.in_ok-push_held.ensures
-    ∙ (ap (λ rs. rs ++ (limit c.args.atom (number_of c.args.numbers.now (NoLater c.args.atom c.args.atom)) ∷ []))
-    (c.in_ok-push_self.ensures ∙ ap (λ xs. c.args.rules.now ++ map (self_rule c.args.numbers.now c.args.atom) xs) c.rules_of-indices.ensures.are)
+    ∙ (ap (λ rs. rs ++ (limit c.args.atom (number_of c.args.writer.now.numbers.now (NoLater c.args.atom c.args.atom)) ∷ [])) c.in_ok-push_self.ensures
     ∙ (append-more c.args.rules.now _ _
-    ∙ ap (λ rs. c.args.rules.now ++ rs) (same-name c.args.program.now (part_of c.args.parts.now) c.args.tables.now.inner.items c.requires.tables.inner c.args.numbers.now c.args.atom)))
+    ∙ ap (λ rs. c.args.rules.now ++ rs) (same-name c.args.writer.now.setting.now.program (part_of c.args.writer.now.setting.now.parts) c.args.writer.now.numbers.now c.args.atom)))

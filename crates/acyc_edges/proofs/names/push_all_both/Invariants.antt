@@ -6,4 +6,4 @@ use Rattle.acyc_edges.specs.Encoding.{both_names}
 use Rattle.acyc_edges.proofs.names.push_all_both.Given as goal
 
 abbrev pub invariant-loop-atom : goal.invariant-loop-atom
-invariant-loop-atom l = l.names.items ≡ l.initial.names.items ++ flat_map (both_names l.program (part_of l.parts) []) (take l.atom-index l.atoms)
+invariant-loop-atom l = l.names.items ≡ l.initial.names.items ++ flat_map (both_names l.setting.program (part_of l.setting.parts) []) (take l.atom-index l.atoms)

@@ -1,7 +1,0 @@
--- What the loop of `push_self` has done so far.
-use Rattle.std.proofs.Common.{◌≡◌, ◌++◌, map, take}
-use Rattle.acyc_edges.specs.private.Written.{self_rule}
-use Rattle.acyc_edges.proofs.listed.push_self.Given as goal
-
-abbrev pub invariant-loop-index : goal.invariant-loop-index
-invariant-loop-index l = l.rules ≡ l.initial.rules ++ map (self_rule l.numbers l.atom) (take l.index-index l.indices)

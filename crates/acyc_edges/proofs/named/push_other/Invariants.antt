@@ -1,0 +1,12 @@
+-- What the loop of `push_other` has done so far.
+use Rattle.std.proofs.Common.{◌≡◌, ◌++◌, [], map, take}
+use Rattle.acyc_edges.specs.Components.{part_of}
+use Rattle.acyc_edges.specs.Encoding.{inner_at, rules_of}
+use Rattle.acyc_edges.specs.private.Written.{later_rule}
+use Rattle.acyc_edges.proofs.named.push_other.Given as goal
+
+abbrev pub invariant-loop-index : goal.invariant-loop-index
+invariant-loop-index l =
+    l.rules ≡ l.initial.rules
+    ++ map (later_rule l.writer.numbers.now (inner_at l.writer.setting.now.program (part_of l.writer.setting.now.parts) []) l.atom l.other)
+    (take l.index-index (rules_of l.writer.setting.now.program (part_of l.writer.setting.now.parts) [] l.atom))

@@ -1,9 +1,0 @@
--- What the loop of `push_all_chosen` has done so far.
-use Rattle.std.proofs.Common.{◌≡◌, ◌++◌, [], take}
-use Rattle.std.specs.List.{flat_map}
-use Rattle.acyc_edges.specs.Components.{part_of}
-use Rattle.acyc_edges.specs.Encoding.{edge_names}
-use Rattle.acyc_edges.proofs.names.push_all_chosen.Given as goal
-
-abbrev pub invariant-loop-atom : goal.invariant-loop-atom
-invariant-loop-atom l = l.names.items ≡ l.initial.names.items ++ flat_map (edge_names l.program (part_of l.parts) []) (take l.atom-index l.atoms)

@@ -1,9 +1,0 @@
-use Rattle.std.proofs.Common.{◌≡◌, ◌++◌, [], map, take}
-use Rattle.std.specs.List.{flat_map}
-use Rattle.acyc_edges.specs.Components.{part_of}
-use Rattle.acyc_edges.specs.Encoding.{rules_of}
-use Rattle.acyc_edges.specs.declared.name.Name.TheVariants.{Backs}
-use Rattle.acyc_edges.proofs.unique_names.push_all_backs.Given as goal
-
-abbrev pub invariant-loop-atom : goal.invariant-loop-atom
-invariant-loop-atom l = l.names.items ≡ l.initial.names.items ++ flat_map (λ a. map Backs (rules_of l.program (part_of l.parts) [] a)) (take l.atom-index l.atoms)

@@ -1,6 +1,0 @@
-use Rattle.std.proofs.Common.{◌≡◌, ◌++◌, map, take}
-use Rattle.acyc_edges.specs.declared.name.Name.TheVariants.{Backs}
-use Rattle.acyc_edges.proofs.unique_names.push_backs.Given as goal
-
-abbrev pub invariant-loop-index : goal.invariant-loop-index
-invariant-loop-index l = l.names.items ≡ l.initial.names.items ++ map Backs (take l.index-index l.indices)
