@@ -6,25 +6,21 @@
 ghost use Rattle.std.specs.Prelude.{◌≡◌, ◌≤◌, ◌^◌, [], length, IfOk, OnOk, Ok, if◌then◌else◌};
 ghost use Rattle.std.specs.List.{AllByRecursion};
 ghost use Rattle.aspif_format.specs.Read.{aspif_of};
-ghost use Rattle.acyc_translation.specs.Encoded.{IsEcnf};
 ghost use Rattle.asp_tools.specs.AcycInOrder.{AcycInOrder};
 ghost use Rattle.asp_tools.specs.Calls.{makes, writes_of};
 ghost use Rattle.asp_tools.specs.ProgramText.{program_of_text};
 ghost use Rattle.asp_tools.specs.private.Acyclic.{AcycReply, AcycGroundReply, IsProgramText};
-ghost use Rattle.asp_tools.specs.private.Replying.{AreTextsOf};
 
 use crate::answer::Answer;
 use crate::command::{AcycFormat, Command};
-use crate::formula_texts::with_map;
+use crate::formula_texts::texts_of;
 use crate::outcome::Kind;
-use crate::program_text::program_in;
-use crate::replies::{refused, too_large};
+use crate::program_text::{only_text, program_in};
+use crate::replies::{making_text, refused, too_large};
 use acyc_translation::{AcycRefusal, Encoding, encode, translate};
 use asp_base::{ByteList, Memory, VecList};
-use dimacs_format::write_ecnf;
 use ground_program::{Program, ReadRefusal};
-use job_shell::{Output, Reply};
-use sat_translation::Translation;
+use job_shell::Reply;
 use std::alloc::Global;
 
 /// The reply to the text of a program, with its positive recursion encoded so and written in this format.
@@ -41,12 +37,7 @@ pub(crate) fn reply(
         ≡ (if makes (Command.Lp2acyc encoding format) r.answer then writes_of (Command.Lp2acyc encoding format) else 0)) }
     ensures said { IfOk result (λ r. r.said ≡ []) }
 {
-    let mut texts = texts.into_vec();
-    match texts.pop() {
-        Some(text) => reply_to(alloc, encoding, format, text),
-        // There is a text.
-        None => Err(Memory),
-    }
+    reply_to(alloc, encoding, format, only_text(texts)?)
 }
 
 /// The reply to the text.
@@ -108,7 +99,7 @@ fn reply_in_clauses(
     ensures { IfOk result (λ r. AcycGroundReply encoding AcycFormat.Ecnf program r.answer r.made r.said) }
 {
     match translate(alloc, encoding, program) {
-        Ok(translation) => clauses_of(alloc, translation),
+        Ok(translation) => texts_of(alloc, translation),
         Err(AcycRefusal::TooLarge { number }) => Ok(too_large(alloc, number)),
         Err(AcycRefusal::Memory) => Err(Memory),
     }
@@ -123,13 +114,7 @@ fn program_text(alloc: Global, program: Program) -> Result<Reply<Answer>, Memory
     let mut target = Vec::new(alloc);
     push_program(alloc, &program, &mut target)?;
     drop(program);
-    let mut made = VecList::new(alloc);
-    made.push(Output::from_text(target))?;
-    Ok(Reply {
-        answer: Answer::Done,
-        made,
-        said: VecList::new(alloc),
-    })
+    making_text(alloc, target)
 }
 
 /// Appends the text of a program to nothing.
@@ -138,18 +123,4 @@ fn push_program(alloc: Global, program: &Program, target: &mut Vec<u8>) -> Resul
     ensures { OnOk result (aspif_of target.new.items ≡ Ok program.now) }
 {
     aspif_format::write(alloc, program, target)
-}
-
-/// The texts of a formula with edges and of a map.
-fn clauses_of(alloc: Global, translation: Translation) -> Result<Reply<Answer>, Memory>
-    requires { IsEcnf translation.formula }
-    ensures answer { IfOk result (λ r. r.answer ≡ Answer.Done) }
-    ensures texts { IfOk result (λ r. AreTextsOf translation.formula translation.map r.made) }
-    ensures said { IfOk result (λ r. r.said ≡ []) }
-{
-    let Translation { formula, map } = translation;
-    let mut target = Vec::new(alloc);
-    write_ecnf(&formula, &mut target)?;
-    drop(formula);
-    with_map(alloc, target, map)
 }

@@ -13,11 +13,11 @@ ghost use Rattle.asp_tools.specs.private.Normalizing.{NormalReply, NormalGroundR
 use crate::answer::Answer;
 use crate::command::{Command, TextFormat};
 use crate::outcome::Kind;
-use crate::program_text::program_in;
-use crate::replies::{refused, too_large};
+use crate::program_text::{only_text, program_in};
+use crate::replies::{making_text, refused, too_large};
 use asp_base::{ByteList, Memory, VecList};
 use ground_program::{Program, ReadRefusal};
-use job_shell::{Output, Reply};
+use job_shell::Reply;
 use normalize::{NormalRefusal, normal};
 use std::alloc::Global;
 
@@ -34,12 +34,7 @@ pub(crate) fn reply(
         ≡ (if makes (Command.Lp2normal format) r.answer then 1 else 0)) }
     ensures said { IfOk result (λ r. r.said ≡ []) }
 {
-    let mut texts = texts.into_vec();
-    match texts.pop() {
-        Some(text) => reply_to(alloc, format, text),
-        // There is a text.
-        None => Err(Memory),
-    }
+    reply_to(alloc, format, only_text(texts)?)
 }
 
 /// The reply to the text.
@@ -93,13 +88,7 @@ fn text_of(alloc: Global, format: TextFormat, program: Program) -> Result<Reply<
     let mut target = Vec::new(alloc);
     push_program(alloc, format, &program, &mut target)?;
     drop(program);
-    let mut made = VecList::new(alloc);
-    made.push(Output::from_text(target))?;
-    Ok(Reply {
-        answer: Answer::Done,
-        made,
-        said: VecList::new(alloc),
-    })
+    making_text(alloc, target)
 }
 
 /// Appends the text of a program in this format to nothing.

@@ -7,20 +7,18 @@ ghost use Rattle.std.specs.List.{AllByRecursion};
 ghost use Rattle.asp_tools.specs.Calls.{makes};
 ghost use Rattle.asp_tools.specs.ProgramText.{program_of_text};
 ghost use Rattle.asp_tools.specs.SatInOrder.{SatInOrder};
-ghost use Rattle.asp_tools.specs.private.Replying.{AreTextsOf, SatReply, GroundReply};
-ghost use Rattle.sat_translation.specs.Translated.{IsCnf, IsWcnf};
+ghost use Rattle.asp_tools.specs.private.Replying.{SatReply, GroundReply};
 
 use crate::answer::Answer;
 use crate::command::{Command, FormulaFormat};
-use crate::formula_texts::with_map;
+use crate::formula_texts::texts_of;
 use crate::outcome::Kind;
-use crate::program_text::program_in;
+use crate::program_text::{only_text, program_in};
 use crate::replies::{refused, too_large};
 use asp_base::{ByteList, Memory, VecList};
-use dimacs_format::{write_cnf, write_wcnf};
 use ground_program::{Program, ReadRefusal};
 use job_shell::Reply;
-use sat_translation::{SoftRefusal, TranslateRefusal, Translation, translate, translate_soft};
+use sat_translation::{SoftRefusal, TranslateRefusal, translate, translate_soft};
 use std::alloc::Global;
 
 /// The reply to the text of a program, with its formula in this format.
@@ -35,12 +33,7 @@ pub(crate) fn reply(
     ensures made { IfOk result (λ r. length r.made ≡ (if makes (Command.Lp2sat format) r.answer then 2 else 0)) }
     ensures said { IfOk result (λ r. r.said ≡ []) }
 {
-    let mut texts = texts.into_vec();
-    match texts.pop() {
-        Some(text) => reply_to(alloc, format, text),
-        // There is a text.
-        None => Err(Memory),
-    }
+    reply_to(alloc, format, only_text(texts)?)
 }
 
 /// The reply to the text.
@@ -49,19 +42,12 @@ fn reply_to(alloc: Global, format: FormulaFormat, text: ByteList) -> Result<Repl
     ensures { IfOk result (λ r. SatReply format (program_of_text text) r.answer r.made r.said) }
 {
     match program_in(alloc, text) {
-        Ok(program) => reply_on(alloc, format, program),
+        Ok(program) => match format {
+            FormulaFormat::Cnf => reply_in_clauses(alloc, program),
+            FormulaFormat::Wcnf => reply_in_soft_clauses(alloc, program),
+        },
         Err(ReadRefusal::At { line, kind }) => Ok(refused(alloc, 1, line, Kind::Text(kind))),
         Err(ReadRefusal::Memory) => Err(Memory),
-    }
-}
-
-/// The reply to a program.
-fn reply_on(alloc: Global, format: FormulaFormat, program: Program) -> Result<Reply<Answer>, Memory>
-    ensures { IfOk result (λ r. GroundReply format program r.answer r.made r.said) }
-{
-    match format {
-        FormulaFormat::Cnf => reply_in_clauses(alloc, program),
-        FormulaFormat::Wcnf => reply_in_soft_clauses(alloc, program),
     }
 }
 
@@ -70,7 +56,7 @@ fn reply_in_clauses(alloc: Global, program: Program) -> Result<Reply<Answer>, Me
     ensures { IfOk result (λ r. GroundReply FormulaFormat.Cnf program r.answer r.made r.said) }
 {
     match translate(alloc, program) {
-        Ok(translation) => clauses_of(alloc, translation),
+        Ok(translation) => texts_of(alloc, translation),
         Err(TranslateRefusal::Edges) => Ok(refused(alloc, 1, 0, Kind::Edges)),
         Err(TranslateRefusal::TooLarge { number }) => Ok(too_large(alloc, number)),
         Err(TranslateRefusal::Memory) => Err(Memory),
@@ -82,7 +68,7 @@ fn reply_in_soft_clauses(alloc: Global, program: Program) -> Result<Reply<Answer
     ensures { IfOk result (λ r. GroundReply FormulaFormat.Wcnf program r.answer r.made r.said) }
 {
     match translate_soft(alloc, program) {
-        Ok(translation) => soft_clauses_of(alloc, translation),
+        Ok(translation) => texts_of(alloc, translation),
         Err(SoftRefusal::Edges) => Ok(refused(alloc, 1, 0, Kind::Edges)),
         Err(SoftRefusal::TooLarge { number }) => Ok(too_large(alloc, number)),
         Err(SoftRefusal::SumTooLarge { priority }) => {
@@ -90,32 +76,4 @@ fn reply_in_soft_clauses(alloc: Global, program: Program) -> Result<Reply<Answer
         }
         Err(SoftRefusal::Memory) => Err(Memory),
     }
-}
-
-/// The texts of a formula without soft clauses and of a map.
-fn clauses_of(alloc: Global, translation: Translation) -> Result<Reply<Answer>, Memory>
-    requires { IsCnf translation.formula }
-    ensures answer { IfOk result (λ r. r.answer ≡ Answer.Done) }
-    ensures texts { IfOk result (λ r. AreTextsOf translation.formula translation.map r.made) }
-    ensures said { IfOk result (λ r. r.said ≡ []) }
-{
-    let Translation { formula, map } = translation;
-    let mut target = Vec::new(alloc);
-    write_cnf(&formula, &mut target)?;
-    drop(formula);
-    with_map(alloc, target, map)
-}
-
-/// The texts of a formula with soft clauses and of a map.
-fn soft_clauses_of(alloc: Global, translation: Translation) -> Result<Reply<Answer>, Memory>
-    requires { IsWcnf translation.formula }
-    ensures answer { IfOk result (λ r. r.answer ≡ Answer.Done) }
-    ensures texts { IfOk result (λ r. AreTextsOf translation.formula translation.map r.made) }
-    ensures said { IfOk result (λ r. r.said ≡ []) }
-{
-    let Translation { formula, map } = translation;
-    let mut target = Vec::new(alloc);
-    write_wcnf(&formula, &mut target)?;
-    drop(formula);
-    with_map(alloc, target, map)
 }

@@ -1,12 +1,25 @@
-//! The program of a text of either format.
+//! The text of a command that reads one, and the program of a text of either format.
 
-ghost use Rattle.std.specs.Prelude.{◌≡◌, ◌≤◌, ◌^◌, length, Ok, IfOk, IfErr};
+ghost use Rattle.std.specs.Prelude.{◌≡◌, ◌≤◌, ◌^◌, ◌∷◌, [], length, Ok, IfOk, IfErr};
 ghost use Rattle.asp_base.specs.Faults.{Refuses};
 ghost use Rattle.asp_tools.specs.ProgramText.{begins_aspif, program_of_text};
 
-use asp_base::ByteList;
+use asp_base::{ByteList, Memory, VecList};
 use ground_program::{Program, ReadRefusal};
 use std::alloc::Global;
+
+/// The only text of a command.
+pub(crate) fn only_text(texts: VecList<ByteList>) -> Result<ByteList, Memory>
+    requires { length texts ≡ 1 }
+    ensures { IfOk result (λ text. texts ≡ text ∷ []) }
+{
+    let mut texts = texts.into_vec();
+    match texts.pop() {
+        Some(text) => Ok(text),
+        // There is a text.
+        None => Err(Memory),
+    }
+}
 
 /// The program of a text: aspif where it begins with `asp `, else smodels. The text is let go.
 pub(crate) fn program_in(alloc: Global, text: ByteList) -> Result<Program, ReadRefusal>

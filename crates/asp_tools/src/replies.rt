@@ -1,12 +1,12 @@
-//! Replies with which nothing is made.
+//! Replies: with texts that are made, or with none.
 
-ghost use Rattle.std.specs.Prelude.{◌≡◌, ◌∷◌, [], false};
+ghost use Rattle.std.specs.Prelude.{◌≡◌, ◌∷◌, [], false, IfOk};
 ghost use Rattle.asp_tools.specs.private.Long.{is_long_kind};
 
 use crate::answer::{Answer, Refused};
 use crate::outcome::Kind;
-use asp_base::VecList;
-use job_shell::Reply;
+use asp_base::{Memory, VecList};
+use job_shell::{Output, Reply};
 use std::alloc::Global;
 
 /// An answer, and what is said with it.
@@ -20,6 +20,30 @@ pub(crate) fn saying(alloc: Global, answer: Answer, said: Vec<u8>) -> Reply<Answ
         made: VecList::new(alloc),
         said: VecList::from_vec(said),
     }
+}
+
+/// The job is done with these texts, and nothing is said.
+pub(crate) fn making(alloc: Global, made: VecList<Output>) -> Reply<Answer>
+    ensures answer { result.answer ≡ Answer.Done }
+    ensures made { result.made ≡ made }
+    ensures said { result.said ≡ [] }
+{
+    Reply {
+        answer: Answer::Done,
+        made,
+        said: VecList::new(alloc),
+    }
+}
+
+/// The job is done with this text, and nothing is said.
+pub(crate) fn making_text(alloc: Global, text: Vec<u8>) -> Result<Reply<Answer>, Memory>
+    ensures answer { IfOk result (λ r. r.answer ≡ Answer.Done) }
+    ensures made { IfOk result (λ r. r.made ≡ text.items ∷ []) }
+    ensures said { IfOk result (λ r. r.said ≡ []) }
+{
+    let mut made = VecList::new(alloc);
+    made.push(Output::from_text(text))?;
+    Ok(making(alloc, made))
 }
 
 /// A measure of the program is this number, which is above its limit.

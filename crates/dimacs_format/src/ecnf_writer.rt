@@ -7,6 +7,7 @@ ghost use Rattle.dimacs_format.specs.Written.{edge_words, ecnf_header_words, edg
 ghost use Rattle.dimacs_format.specs.Read.{formula_of, HasNodes};
 ghost use Rattle.dimacs_format.specs.private.EdgeText.{nodes_text};
 
+use crate::append::{Format, append_text};
 use crate::write::{digits, hard_bytes, push_clauses};
 use asp_base::Memory;
 use asp_scan::push_number;
@@ -28,25 +29,11 @@ pub fn write_ecnf(formula: &Formula, out: &mut Vec<u8>) -> Result<(), Memory>
     ensures err { OnErr result (out.new.items ≡ out.old.items) }
 {
     formula.known();
-    append_text(formula, out)
-}
-
-/// After `Memory` the text is as it was.
-fn append_text(formula: &Formula, out: &mut Vec<u8>) -> Result<(), Memory>
-    ensures ok { OnOk result (out.new.items ≡ out.old.items ++ ecnf_text formula.now) }
-    ensures nodes { OnOk result (AllByRecursion HasNodes formula.now.edges) }
-    ensures err { OnErr result (out.new.items ≡ out.old.items) }
-{
-    let before = out.len();
-    let written = push_lines(formula, out);
-    if written.is_err() {
-        out.truncate(before);
-    }
-    written
+    append_text(Format::Ecnf, formula, out)
 }
 
 /// After `Memory` more may stand behind the text that was there.
-fn push_lines(formula: &Formula, out: &mut Vec<u8>) -> Result<(), Memory>
+pub(crate) fn push_ecnf(formula: &Formula, out: &mut Vec<u8>) -> Result<(), Memory>
     ensures ok { OnOk result (out.new.items ≡ out.old.items ++ ecnf_text formula.now) }
     ensures nodes { OnOk result (AllByRecursion HasNodes formula.now.edges) }
     ensures err { OnErr result (take (length out.old.items) out.new.items ≡ out.old.items) }

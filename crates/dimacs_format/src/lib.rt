@@ -1,6 +1,7 @@
 //! The DIMACS texts of formulas, read and written: CNF, ECNF with edges, and WCNF with soft clauses.
 #![tactic(auto)]
 
+mod append;
 mod clauses;
 mod ecnf_writer;
 mod edges;

@@ -6,6 +6,7 @@ ghost use Rattle.clause_store.specs.Soft.{weights_of};
 ghost use Rattle.dimacs_format.specs.Written.{weighted_words, wcnf_header_words, hard_lines, soft_lines, wcnf_text};
 ghost use Rattle.dimacs_format.specs.Read.{formula_of};
 
+use crate::append::{Format, append_text};
 use crate::write::{digits, hard_bytes, push_clause};
 use asp_base::{Lit, Memory};
 use asp_scan::push_number;
@@ -29,24 +30,11 @@ pub fn write_wcnf(formula: &Formula, out: &mut Vec<u8>) -> Result<(), Memory>
     ensures err { OnErr result (out.new.items ≡ out.old.items) }
 {
     formula.known();
-    append_text(formula, out)
-}
-
-/// After `Memory` the text is as it was.
-fn append_text(formula: &Formula, out: &mut Vec<u8>) -> Result<(), Memory>
-    ensures ok { OnOk result (out.new.items ≡ out.old.items ++ wcnf_text formula.now) }
-    ensures err { OnErr result (out.new.items ≡ out.old.items) }
-{
-    let before = out.len();
-    let written = push_lines(formula, out);
-    if written.is_err() {
-        out.truncate(before);
-    }
-    written
+    append_text(Format::Wcnf, formula, out)
 }
 
 /// After `Memory` more may stand behind the text that was there.
-fn push_lines(formula: &Formula, out: &mut Vec<u8>) -> Result<(), Memory>
+pub(crate) fn push_wcnf(formula: &Formula, out: &mut Vec<u8>) -> Result<(), Memory>
     ensures ok { OnOk result (out.new.items ≡ out.old.items ++ wcnf_text formula.now) }
     ensures err { OnErr result (take (length out.old.items) out.new.items ≡ out.old.items) }
 {

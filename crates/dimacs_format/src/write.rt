@@ -6,6 +6,7 @@ ghost use Rattle.asp_scan.specs.Words.{line_of};
 ghost use Rattle.dimacs_format.specs.Written.{clause_words, header_words, clause_lines, cnf_text};
 ghost use Rattle.dimacs_format.specs.Read.{formula_of};
 
+use crate::append::{Format, append_text};
 use asp_base::{Lit, Memory};
 use asp_scan::push_number;
 use clause_store::{ClauseList, Formula};
@@ -24,24 +25,11 @@ pub fn write_cnf(formula: &Formula, out: &mut Vec<u8>) -> Result<(), Memory>
     ensures err { OnErr result (out.new.items ≡ out.old.items) }
 {
     formula.known();
-    append_text(formula, out)
-}
-
-/// After `Memory` the text is as it was.
-fn append_text(formula: &Formula, out: &mut Vec<u8>) -> Result<(), Memory>
-    ensures ok { OnOk result (out.new.items ≡ out.old.items ++ cnf_text formula.now) }
-    ensures err { OnErr result (out.new.items ≡ out.old.items) }
-{
-    let before = out.len();
-    let written = push_lines(formula, out);
-    if written.is_err() {
-        out.truncate(before);
-    }
-    written
+    append_text(Format::Cnf, formula, out)
 }
 
 /// After `Memory` more may stand behind the text that was there.
-fn push_lines(formula: &Formula, out: &mut Vec<u8>) -> Result<(), Memory>
+pub(crate) fn push_cnf(formula: &Formula, out: &mut Vec<u8>) -> Result<(), Memory>
     ensures ok { OnOk result (out.new.items ≡ out.old.items ++ cnf_text formula.now) }
     ensures err { OnErr result (take (length out.old.items) out.new.items ≡ out.old.items) }
 {

@@ -4,8 +4,12 @@ use Rattle.asp_base.specs.Faults.{Fault}
 use Rattle.ground_program.specs.Ground.{Ground}
 use Rattle.ground_program.specs.declared.reading.ReadKind.{ReadKind}
 use Rattle.clause_store.specs.Clauses.{Clauses}
+use Rattle.sat_translation.specs.Translated.{IsCnf, IsWcnf}
+use Rattle.acyc_translation.specs.Encoded.{IsEcnf}
 use Rattle.dimacs_format.specs.Read.{formula_of}
 use Rattle.symbol_map.specs.Symbols.{Symbols}
+use Rattle.symbol_map.specs.declared.map.Form.{Form}
+use Rattle.symbol_map.specs.declared.map.Form.TheVariants.{Cnf, Ecnf, Wcnf}
 use Rattle.symbol_map.specs.Read.{map_of}
 use Rattle.asp_tools.specs.Calls.{makes}
 use Rattle.asp_tools.specs.SatAnswers.{OfGround, OfProgram}
@@ -24,6 +28,12 @@ IsSilent answer said = ⊤
 -- a reply with which something may be said, and nothing is made
 abbrev pub Replying : (Answer → List ℕ → Type 0) → Answer → List (List ℕ) → List ℕ → Type 0
 Replying Calls answer made said = Calls answer said × (made ≡ []) × IsSilent answer said
+
+-- clauses alone, with edges, or with soft ones
+abbrev pub HasFormOf : Form → Clauses → Type 0
+HasFormOf Cnf F = IsCnf F
+HasFormOf Ecnf F = IsEcnf F
+HasFormOf Wcnf F = IsWcnf F
 
 -- the texts of a formula and of a map
 abbrev pub AreTextsOf : Clauses → Symbols → List (List ℕ) → Type 0
