@@ -2,18 +2,4 @@
 #![tactic(auto)]
 
 #[cfg(test)]
-mod answer_texts;
-#[cfg(test)]
-mod aspif_faults;
-#[cfg(test)]
-mod aspif_texts;
-#[cfg(test)]
-mod atom_texts;
-#[cfg(test)]
-mod formula_texts;
-#[cfg(test)]
-mod map_texts;
-#[cfg(test)]
-mod smodels_faults;
-#[cfg(test)]
-mod smodels_texts;
+mod tests;

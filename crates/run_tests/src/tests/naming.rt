@@ -1,32 +1,11 @@
 //! Words that name no job, names of no file, strange names, and long names in complaints.
 
-use crate::runs::{End, Run, done, expect_run, refused};
-use crate::samples::{CHOICE, CHOICE_FORMULA, CHOICE_MAP};
+use super::runs::{Run, done, expect_bad_words, expect_end, expect_run, failed, refused};
+use super::samples::{CHOICE, CHOICE_FORMULA, CHOICE_MAP};
 use asp_base::Memory;
 use std::alloc::{AllocError, Global};
 use std::process::Abort;
 use std::test::Fail;
-
-fn expect_bad_words<'t>(
-    rt: &impl Abort,
-    alloc: Global,
-    words: &'t [&'t str],
-    text: &'t [u8],
-) -> Result<(), Memory> {
-    let texts = [("in", text), ("x", text)];
-    let run = Run {
-        words,
-        texts: &texts,
-        end: End {
-            outcome: "BadWords",
-            status: 1,
-            said: "",
-            complaint: "asptools: bad words\n",
-        },
-        made: &[],
-    };
-    expect_run(rt, alloc, &run)
-}
 
 #[test]
 fn refuses_bad_words(rt: HostRuntime) -> Result<(), Fail> {
@@ -46,11 +25,8 @@ fn refuses_bad_words(rt: HostRuntime) -> Result<(), Fail> {
         &["back", "f", "m"],
         &["back", "f", "", "a"],
     ];
-    let alloc = rt.alloc();
-    for words in rows {
-        expect_bad_words(&rt, alloc, words, CHOICE.as_bytes())?;
-    }
-    Ok(())
+    let texts = [("in", CHOICE.as_bytes()), ("x", CHOICE.as_bytes())];
+    expect_bad_words(&rt, rt.alloc(), &texts, &rows)
 }
 
 /// The run can't read the file of this place, and complains so.
@@ -61,22 +37,12 @@ fn expect_missing(
     outcome: &str,
     complaint: &str,
 ) -> Result<(), Memory> {
-    let run = Run {
-        words,
-        texts: &[
-            ("in", b"no program\n"),
-            ("f", b"no formula\n"),
-            ("a", b"SAT\n"),
-        ],
-        end: End {
-            outcome,
-            status: 6,
-            said: "",
-            complaint,
-        },
-        made: &[],
-    };
-    expect_run(rt, alloc, &run)
+    let texts: [(&str, &[u8]); 3] = [
+        ("in", b"no program\n"),
+        ("f", b"no formula\n"),
+        ("a", b"SAT\n"),
+    ];
+    expect_end(rt, alloc, words, &texts, failed(outcome, 6, complaint))
 }
 
 #[test]
@@ -116,55 +82,26 @@ fn reads_its_files_in_order(rt: HostRuntime) -> Result<(), Fail> {
     Ok(())
 }
 
-/// A run of `lp2sat` over files of strange names makes these texts.
-fn expect_strange<'t>(
-    rt: &impl Abort,
-    alloc: Global,
-    text: &'t [u8],
-    formula: &'t [u8],
-    map: &'t [u8],
-) -> Result<(), Memory> {
-    let made = [("a-b ", formula), ("\u{e9}", map)];
-    let run = Run {
-        words: &["lp2sat", "a\nb", "a-b ", "\u{e9}"],
-        texts: &[("a\nb", text)],
-        end: done(""),
-        made: &made,
-    };
-    expect_run(rt, alloc, &run)
-}
-
-/// A name may be the word of a command.
-fn expect_refusal<'t>(
-    rt: &impl Abort,
-    alloc: Global,
-    text: &'t [u8],
-    atoms: &'t [u8],
-) -> Result<(), Memory> {
-    let texts = [("a\nb", text), ("lp2sat", atoms)];
-    let run = Run {
-        words: &["check", "a\nb", "lp2sat"],
-        texts: &texts,
-        end: refused(
-            "Refused { file: 2, line: 1, kind: Text(BadNumber) }",
-            "asptools: lp2sat:1: BadNumber\n",
-        ),
-        made: &[],
-    };
-    expect_run(rt, alloc, &run)
-}
-
 #[test]
 fn takes_strange_names(rt: HostRuntime) -> Result<(), Fail> {
     let alloc = rt.alloc();
-    expect_strange(
-        &rt,
-        alloc,
-        CHOICE.as_bytes(),
-        CHOICE_FORMULA.as_bytes(),
-        CHOICE_MAP.as_bytes(),
-    )?;
-    expect_refusal(&rt, alloc, CHOICE.as_bytes(), b"x\n")?;
+    let run = Run {
+        words: &["lp2sat", "a\nb", "a-b ", "\u{e9}"],
+        texts: &[("a\nb", CHOICE.as_bytes())],
+        end: done(""),
+        made: &[
+            ("a-b ", CHOICE_FORMULA.as_bytes()),
+            ("\u{e9}", CHOICE_MAP.as_bytes()),
+        ],
+    };
+    expect_run(&rt, alloc, &run)?;
+    // A name may be the word of a command.
+    let texts: [(&str, &[u8]); 2] = [("a\nb", CHOICE.as_bytes()), ("lp2sat", b"x\n")];
+    let end = refused(
+        "Refused { file: 2, line: 1, kind: Text(BadNumber) }",
+        "asptools: lp2sat:1: BadNumber\n",
+    );
+    expect_end(&rt, alloc, &["check", "a\nb", "lp2sat"], &texts, end)?;
     Ok(())
 }
 

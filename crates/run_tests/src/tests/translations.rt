@@ -1,10 +1,10 @@
 //! Runs of `lp2sat`: the formula and the map of a program, byte for byte; answers to formulas that were written; and
 //! programs that are not translated.
 
-use crate::runs::{
-    End, done, expect_end, expect_judgement, expect_translation, made_of, refused, rejected,
+use super::runs::{
+    done, expect_end, expect_judged, expect_translations, made_of, refused, rejected,
 };
-use crate::samples::{
+use super::samples::{
     ASPIF, CHOICE, CHOICE_FORMULA, CHOICE_MAP, CIRCLE, COLOURING, COUNTS, EDGES, LOOPS, REPEATED,
     RING, SAT, SHOWN, SHOWN_MAP, WEIGHTS,
 };
@@ -13,157 +13,127 @@ use std::alloc::Global;
 use std::process::Abort;
 use std::test::Fail;
 
-/// The text of a program, and those of its formula and of its map.
-#[derive(Clone, Copy)]
-struct Row {
-    text: &'static str,
-    formula: &'static str,
-    map: &'static str,
-}
-
-const fn row_of(text: &'static str, formula: &'static str, map: &'static str) -> Row {
-    Row { text, formula, map }
-}
-
-fn expect_row(rt: &impl Abort, alloc: Global, row: Row) -> Result<(), Memory> {
-    expect_translation(
-        rt,
-        alloc,
-        row.text.as_bytes(),
-        row.formula.as_bytes(),
-        row.map.as_bytes(),
-    )
-}
-
 #[test]
 fn translates_programs(rt: HostRuntime) -> Result<(), Fail> {
     let rows = [
-        row_of("asp 1 0 0\n0\n", "p cnf 0 0\n", "map 1 cnf 0\nend\n"),
-        row_of(CHOICE, CHOICE_FORMULA, CHOICE_MAP),
-        row_of(SHOWN, CHOICE_FORMULA, SHOWN_MAP),
+        ("asp 1 0 0\n0\n", "p cnf 0 0\n", "map 1 cnf 0\nend\n"),
+        (CHOICE, CHOICE_FORMULA, CHOICE_MAP),
+        (SHOWN, CHOICE_FORMULA, SHOWN_MAP),
         // An atom that needs its own absence.
-        row_of(
+        (
             "asp 1 0 0\n1 0 1 1 0 1 -1\n0\n",
             "p cnf 1 2\n-1 -1 0\n1 1 0\n",
             "map 1 cnf 1\natom 1 1\nend\n",
         ),
         // A rule without head and body.
-        row_of(
+        (
             "asp 1 0 0\n1 0 0 0 0\n0\n",
             "p cnf 0 1\n0\n",
             "map 1 cnf 0\nend\n",
         ),
-        row_of(
+        (
             "asp 1 0 0\n1 0 1 7 0 1 -1073741824\n0\n",
             "p cnf 2 3\n-1 -2 0\n1 2 0\n-2 0\n",
             "map 1 cnf 2\natom 7 1\natom 1073741824 2\nend\n",
         ),
         // A name with a blank in it.
-        row_of(
+        (
             "asp 1 0 0\n4 5 a b)c 1 1\n0\n",
             "p cnf 1 1\n-1 0\n",
             "map 1 cnf 1\natom 1 1\nshow 5 a b)c 1 1\nend\n",
         ),
-        row_of(
+        (
             "asp 1 0 0\n1 0 1 1 0 2 -2 -3\n0\n",
             "p cnf 4 7\n-4 -2 0\n-4 -3 0\n4 2 3 0\n-1 4 0\n1 -4 0\n-2 0\n-3 0\n",
             "map 1 cnf 4\natom 1 1\natom 2 2\natom 3 3\nend\n",
         ),
         // Two rules with one body.
-        row_of(
+        (
             "asp 1 0 0\n1 0 1 1 0 2 -2 -3\n1 0 1 4 0 2 -2 -3\n0\n",
             "p cnf 5 9\n-5 -2 0\n-5 -3 0\n5 2 3 0\n-1 5 0\n1 -5 0\n-2 0\n-3 0\n-4 5 0\n4 -5 0\n",
             "map 1 cnf 5\natom 1 1\natom 2 2\natom 3 3\natom 4 4\nend\n",
         ),
         // A fact, and a rule without head.
-        row_of(
+        (
             "asp 1 0 0\n1 0 1 1 0 0\n1 0 0 0 2 -1 -2\n0\n",
             "p cnf 2 3\n1 0\n-2 0\n1 2 0\n",
             "map 1 cnf 2\natom 1 1\natom 2 2\nend\n",
         ),
         // External atoms: the last value counts.
-        row_of(
+        (
             "asp 1 0 0\n5 2 2\n5 2 1\n5 3 2\n0\n",
             "p cnf 2 2\n1 0\n-2 0\n",
             "map 1 cnf 2\natom 2 1\natom 3 2\nend\n",
         ),
         // The second one as smodels text.
-        row_of(
+        (
             "1 1 1 1 2\n1 2 1 1 1\n0\n0\nB+\n0\nB-\n0\n1\n",
             CHOICE_FORMULA,
             CHOICE_MAP,
         ),
     ];
-    let alloc = rt.alloc();
-    for row in rows {
-        expect_row(&rt, alloc, row)?;
-    }
-    Ok(())
+    expect_translations(&rt, rt.alloc(), SAT, &rows)
 }
 
 #[test]
 fn translates_normalized_programs(rt: HostRuntime) -> Result<(), Fail> {
     let rows = [
         // A positive literal.
-        row_of(
+        (
             "asp 1 0 0\n1 0 1 1 0 2 -2 3\n0\n",
             "p cnf 4 7\n-4 -2 0\n-4 3 0\n4 2 -3 0\n-1 4 0\n1 -4 0\n-2 0\n-3 0\n",
             "map 1 cnf 4\natom 1 1\natom 2 2\natom 3 3\nend\n",
         ),
         // A choice, whose complement is no atom of the map.
-        row_of(
+        (
             "asp 1 0 0\n1 1 1 1 0 0\n0\n",
             CHOICE_FORMULA,
             "map 1 cnf 2\natom 1 1\nend\n",
         ),
         // A free external atom.
-        row_of(
+        (
             "asp 1 0 0\n5 1 0\n0\n",
             CHOICE_FORMULA,
             "map 1 cnf 2\natom 1 1\nend\n",
         ),
         // A weight.
-        row_of(
+        (
             "asp 1 0 0\n1 0 1 1 1 1 1 -2 1\n0\n",
             "p cnf 2 3\n-1 -2 0\n1 2 0\n-2 0\n",
             "map 1 cnf 2\natom 1 1\natom 2 2\nend\n",
         ),
         // A required literal.
-        row_of(
+        (
             "asp 1 0 0\n6 1 -1\n0\n",
             "p cnf 1 2\n-1 0\n-1 0\n",
             "map 1 cnf 1\natom 1 1\nend\n",
         ),
         // Names and levels stand over the variables.
-        row_of(
+        (
             "asp 1 0 0\n1 1 1 7 0 0\n1 0 1 9 0 1 7\n4 1 x 2 9 -7\n2 1 1 7 3\n2 2 2 -9 4 9 -1\n0\n",
             "p cnf 3 6\n-1 -2 0\n1 2 0\n-2 -1 0\n2 1 0\n-3 2 0\n3 -2 0\n",
             "map 1 cnf 3\natom 7 2\natom 9 3\nshow 1 x 2 3 -2\nlevel 2 2 -3 4 3 -1\nlevel 1 1 2 3\nend\n",
         ),
         // An atom that is to be false, in smodels text.
-        row_of(
+        (
             "1 1 1 1 2\n0\n2 b\n0\nB+\n0\nB-\n1\n0\n1\n",
             "p cnf 2 4\n-1 -2 0\n1 2 0\n-2 0\n-1 0\n",
             "map 1 cnf 2\natom 1 1\natom 2 2\nshow 1 b 1 2\nend\n",
         ),
     ];
-    let alloc = rt.alloc();
-    for row in rows {
-        expect_row(&rt, alloc, row)?;
-    }
-    Ok(())
+    expect_translations(&rt, rt.alloc(), SAT, &rows)
 }
 
 #[test]
 fn ranks_components(rt: HostRuntime) -> Result<(), Fail> {
     let rows = [
-        row_of(
+        (
             CIRCLE,
             "p cnf 5 15\n-1 1 0\n1 -1 0\n1 -2 0\n-1 2 0\n2 -3 0\n2 -3 0\n-2 -2 3 0\n-4 1 0\n-4 -3 0\n\
              4 -1 3 0\n-1 4 0\n-2 -5 0\n-2 -5 0\n2 2 5 0\n-1 -5 0\n",
             "map 1 cnf 5\natom 1 1\nend\n",
         ),
-        row_of(
+        (
             LOOPS,
             "p cnf 20 70\n-1 3 2 0\n1 -3 0\n1 -2 0\n-2 1 0\n2 -1 0\n-3 -4 0\n3 4 0\n-4 -3 0\n4 3 0\n1 -5 0\n\
              1 -6 0\n-1 5 6 0\n2 -7 0\n2 -8 0\n-2 7 8 0\n-6 -5 9 0\n6 5 9 0\n6 -5 -9 0\n-6 5 -9 0\n5 -10 0\n\
@@ -177,7 +147,7 @@ fn ranks_components(rt: HostRuntime) -> Result<(), Fail> {
             "map 1 cnf 20\natom 1 1\natom 2 2\natom 3 3\nshow 1 a 1 1\nshow 1 b 1 2\nshow 1 c 1 3\nend\n",
         ),
         // Three components, which are ranked in the order of a walk along the rules: 3, then 2, then 1.
-        row_of(
+        (
             "asp 1 0 0\n1 0 1 1 0 1 1\n1 0 1 1 0 1 3\n1 0 1 1 0 1 2\n1 0 1 2 0 1 2\n1 0 1 3 0 1 3\n0\n",
             "p cnf 15 47\n-1 1 3 2 0\n1 -1 0\n1 -3 0\n1 -2 0\n-2 2 0\n2 -2 0\n-3 3 0\n3 -3 0\n1 -4 0\n\
              -1 4 0\n2 -5 0\n-2 5 0\n3 -6 0\n-3 6 0\n6 -7 0\n6 -7 0\n-6 -6 7 0\n-8 3 0\n-8 -7 0\n8 -3 7 0\n\
@@ -187,7 +157,7 @@ fn ranks_components(rt: HostRuntime) -> Result<(), Fail> {
             "map 1 cnf 15\natom 1 1\natom 2 2\natom 3 3\nend\n",
         ),
         // A fact needs no support, and an atom that stands twice in a body is compared once.
-        row_of(
+        (
             "asp 1 0 0\n1 0 1 1 0 0\n1 0 1 1 0 2 2 2\n1 0 1 2 0 1 1\n0\n",
             "p cnf 16 54\n-3 2 0\n-3 2 0\n3 -2 -2 0\n1 0\n-2 1 0\n2 -1 0\n1 -4 0\n1 -5 0\n-1 4 5 0\n2 -6 0\n\
              2 -7 0\n-2 6 7 0\n-5 -4 8 0\n5 4 8 0\n5 -4 -8 0\n-5 4 -8 0\n-5 0\n-6 -9 0\n-4 -9 0\n6 4 9 0\n\
@@ -199,31 +169,7 @@ fn ranks_components(rt: HostRuntime) -> Result<(), Fail> {
             "map 1 cnf 16\natom 1 1\natom 2 2\nend\n",
         ),
     ];
-    let alloc = rt.alloc();
-    for row in rows {
-        expect_row(&rt, alloc, row)?;
-    }
-    Ok(())
-}
-
-/// An answer to the formula that is written for a program, with its map, is judged so.
-fn expect_judged(
-    rt: &impl Abort,
-    alloc: Global,
-    text: &str,
-    answer: &str,
-    end: End<'_>,
-) -> Result<(), Memory> {
-    let formula = made_of(rt, alloc, SAT, text.as_bytes(), "out")?;
-    let map = made_of(rt, alloc, SAT, text.as_bytes(), "map")?;
-    expect_judgement(
-        rt,
-        alloc,
-        formula.as_slice(),
-        map.as_slice(),
-        answer.as_bytes(),
-        end,
-    )
+    expect_translations(&rt, rt.alloc(), SAT, &rows)
 }
 
 #[test]
@@ -283,7 +229,7 @@ fn written_formulas_have_stable_models(rt: HostRuntime) -> Result<(), Fail> {
     ];
     let alloc = rt.alloc();
     for (text, answer, end) in rows {
-        expect_judged(&rt, alloc, text, answer, end)?;
+        expect_judged(&rt, alloc, SAT, text, answer, end)?;
     }
     Ok(())
 }
@@ -325,6 +271,6 @@ fn refuses_edges(rt: HostRuntime) -> Result<(), Fail> {
         "Refused { file: 1, line: 0, kind: Edges }",
         "asptools: in: Edges\n",
     );
-    expect_end(&rt, rt.alloc(), SAT, EDGES, end)?;
+    expect_end(&rt, rt.alloc(), SAT, &[("in", EDGES.as_bytes())], end)?;
     Ok(())
 }

@@ -1,17 +1,15 @@
 //! The first faults of aspif texts.
 
+use super::tables::{expect_fault, expect_faults};
 use aspif_format::read;
 use ground_program::{ReadKind, ReadRefusal};
 use std::alloc::Global;
 use std::process::Abort;
 use std::test::Fail;
 
-/// The text has this fault at this line.
-fn expect_fault(rt: &impl Abort, alloc: Global, text: &str, line: u64, kind: ReadKind) {
-    match read(alloc, text.as_bytes()) {
-        Ok(_) => assert!(rt; false, "{text:?} is read"),
-        Err(refusal) => assert_eq!(rt; refusal, ReadRefusal::At { line, kind }, "{text:?}"),
-    }
+/// The first fault of a text.
+fn fault_of(alloc: Global, text: &str) -> Option<ReadRefusal> {
+    read(alloc, text.as_bytes()).err()
 }
 
 #[test]
@@ -31,21 +29,16 @@ fn finds_bad_headers_and_ends(rt: HostRuntime) {
         ("asp 1 0 0\n0\n\n x", 4, ReadKind::TrailingText),
         ("asp 1 0 0\n0 1\n", 2, ReadKind::TrailingText),
     ];
-    let alloc = rt.alloc();
-    for (text, line, kind) in rows {
-        expect_fault(&rt, alloc, text, line, kind);
-    }
+    expect_faults(&rt, rt.alloc(), fault_of, &rows);
 }
 
-/// The text with this second line has this fault there.
-fn expect_bad_line(
-    rt: &impl Abort,
-    alloc: Global,
-    statement: &str,
-    kind: ReadKind,
-) -> Result<(), Fail> {
-    let text = format!(in alloc; "asp 1 0 0\n{statement}\n0\n")?;
-    expect_fault(rt, alloc, text.as_str(), 2, kind);
+/// The text whose second line is that of a row has the row's fault there.
+fn expect_bad_lines(rt: &impl Abort, alloc: Global, rows: &[(&str, ReadKind)]) -> Result<(), Fail> {
+    for (statement, kind) in rows {
+        let text = format!(in alloc; "asp 1 0 0\n{statement}\n0\n")?;
+        let text = text.as_str();
+        expect_fault(rt, text, fault_of(alloc, text), 2, *kind);
+    }
     Ok(())
 }
 
@@ -73,11 +66,7 @@ fn finds_bad_rules(rt: HostRuntime) -> Result<(), Fail> {
         ("1 0 1 1 1 1 1 2 -1", ReadKind::NegativeWeight),
         ("1 0 1 1 1 1 1 2 2147483648", ReadKind::WeightTooLarge),
     ];
-    let alloc = rt.alloc();
-    for (statement, kind) in rows {
-        expect_bad_line(&rt, alloc, statement, kind)?;
-    }
-    Ok(())
+    expect_bad_lines(&rt, rt.alloc(), &rows)
 }
 
 #[test]
@@ -99,9 +88,5 @@ fn finds_bad_statements(rt: HostRuntime) -> Result<(), Fail> {
         ("8 0 -2147483649 0", ReadKind::BadNumber),
         ("9 0 1 5", ReadKind::Theory),
     ];
-    let alloc = rt.alloc();
-    for (statement, kind) in rows {
-        expect_bad_line(&rt, alloc, statement, kind)?;
-    }
-    Ok(())
+    expect_bad_lines(&rt, rt.alloc(), &rows)
 }

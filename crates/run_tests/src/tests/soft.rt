@@ -1,12 +1,9 @@
 //! Runs of `lp2sat --soft`: the weighted clauses, byte for byte; what answers to them cost; and sums that are too large.
 
-use crate::runs::{
-    End, Run, done, expect_end, expect_judgement, expect_run, made_of, refused, rejected,
+use super::runs::{
+    End, done, expect_end, expect_judged, expect_judgement, expect_translations, refused, rejected,
 };
-use crate::samples::{CHOICE, COLOURING, EDGES};
-use asp_base::Memory;
-use std::alloc::Global;
-use std::process::Abort;
+use super::samples::{CHOICE, COLOURING, EDGES};
 use std::test::Fail;
 
 const SOFT: &[&str] = &["lp2sat", "--soft", "in", "out", "map"];
@@ -21,53 +18,26 @@ const LEVELS_FORMULA: &str =
 const LEVELS_MAP: &str =
     "map 1 wcnf 6\natom 1 1\natom 2 2\natom 3 3\nlevel 2 1 3 4\nlevel 1 2 1 3 2 -2\nend\n";
 
-/// The text of a program, and those of its formula and of its map.
-#[derive(Clone, Copy)]
-struct Row {
-    text: &'static str,
-    formula: &'static str,
-    map: &'static str,
-}
-
-fn expect_row(rt: &impl Abort, alloc: Global, row: Row) -> Result<(), Memory> {
-    let made = [("out", row.formula.as_bytes()), ("map", row.map.as_bytes())];
-    let run = Run {
-        words: SOFT,
-        texts: &[("in", row.text.as_bytes())],
-        end: done(""),
-        made: &made,
-    };
-    expect_run(rt, alloc, &run)
-}
-
 #[test]
 fn weighs_levels(rt: HostRuntime) -> Result<(), Fail> {
     let rows = [
-        Row {
-            text: LEVELS,
-            formula: LEVELS_FORMULA,
-            map: LEVELS_MAP,
-        },
+        (LEVELS, LEVELS_FORMULA, LEVELS_MAP),
         // Without levels all clauses are hard.
-        Row {
-            text: CHOICE,
-            formula: "p wcnf 2 4 1\n1 -1 -2 0\n1 1 2 0\n1 -2 -1 0\n1 2 1 0\n",
-            map: "map 1 wcnf 2\natom 1 1\natom 2 2\nend\n",
-        },
+        (
+            CHOICE,
+            "p wcnf 2 4 1\n1 -1 -2 0\n1 1 2 0\n1 -2 -1 0\n1 2 1 0\n",
+            "map 1 wcnf 2\natom 1 1\natom 2 2\nend\n",
+        ),
         // The greatest scale of two levels, of which each has the greatest weight.
-        Row {
-            text: "asp 1 0 0\n1 1 1 1 0 0\n2 1 1 1 2147483647\n2 2 1 1 2147483647\n0\n",
-            formula: "p wcnf 2 6 4611686018427387904\n4611686018427387904 -1 -2 0\n\
+        (
+            "asp 1 0 0\n1 1 1 1 0 0\n2 1 1 1 2147483647\n2 2 1 1 2147483647\n0\n",
+            "p wcnf 2 6 4611686018427387904\n4611686018427387904 -1 -2 0\n\
                       4611686018427387904 1 2 0\n4611686018427387904 -2 -1 0\n\
                       4611686018427387904 2 1 0\n2147483647 -1 0\n4611686016279904256 -1 0\n",
-            map: "map 1 wcnf 2\natom 1 1\nlevel 2 1 1 2147483647\nlevel 1 1 1 2147483647\nend\n",
-        },
+            "map 1 wcnf 2\natom 1 1\nlevel 2 1 1 2147483647\nlevel 1 1 1 2147483647\nend\n",
+        ),
     ];
-    let alloc = rt.alloc();
-    for row in rows {
-        expect_row(&rt, alloc, row)?;
-    }
-    Ok(())
+    expect_translations(&rt, rt.alloc(), SOFT, &rows)
 }
 
 #[test]
@@ -98,14 +68,12 @@ fn says_costs_of_answers(rt: HostRuntime) -> Result<(), Fail> {
             end,
         )?;
     }
-    let formula = made_of(&rt, alloc, SOFT, COLOURING.as_bytes(), "out")?;
-    let map = made_of(&rt, alloc, SOFT, COLOURING.as_bytes(), "map")?;
-    expect_judgement(
+    expect_judged(
         &rt,
         alloc,
-        formula.as_slice(),
-        map.as_slice(),
-        b"s OPTIMUM FOUND\nv 1 4 5 8 9 10 11 0\n",
+        SOFT,
+        COLOURING,
+        "s OPTIMUM FOUND\nv 1 4 5 8 9 10 11 0\n",
         rejected("Rejected(Clause(12))", "rejected clause 12\n"),
     )?;
     Ok(())
@@ -133,7 +101,7 @@ fn refuses_large_sums(rt: HostRuntime) -> Result<(), Fail> {
         ),
     ];
     for (text, end) in rows {
-        expect_end(&rt, alloc, SOFT, text, end)?;
+        expect_end(&rt, alloc, SOFT, &[("in", text.as_bytes())], end)?;
     }
     Ok(())
 }

@@ -1,7 +1,7 @@
 //! Runs of `back`: answers that are accepted or not, and what is said of them.
 
-use crate::runs::{End, done, expect_judgement, refused, rejected};
-use crate::samples::{CLAUSES, NO_ATOMS};
+use super::runs::{End, done, expect_judgement, refused, rejected};
+use super::samples::{CLAUSES, NO_ATOMS};
 use std::test::Fail;
 
 /// The texts that `back` is given, and how it is to end.

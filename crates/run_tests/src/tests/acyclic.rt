@@ -1,9 +1,12 @@
 //! Runs of `lp2acyc`: what is written, byte for byte; answers to the clauses; and programs that are too large.
 
-use crate::runs::{End, Run, done, expect_end, expect_judgement, expect_run, made_of, rejected};
-use crate::samples::{ASPIF, CIRCLE, COLOURING, COUNTS, EDGES, REPEATED, WEIGHTS};
+use super::large::ring_program;
+use super::runs::{
+    End, Run, done, expect_end, expect_judgement, expect_run, failed, made_of, rejected,
+};
+use super::samples::{ASPIF, CIRCLE, COLOURING, COUNTS, EDGES, REPEATED, WEIGHTS};
 use asp_base::Memory;
-use std::alloc::{AllocError, Global};
+use std::alloc::Global;
 use std::process::Abort;
 use std::test::Fail;
 
@@ -156,33 +159,18 @@ fn judges_edges(rt: HostRuntime) -> Result<(), Fail> {
     Ok(())
 }
 
-/// The number of atoms of a ring.
-const RING: u32 = 4000;
-
-/// Each atom of the ring holds where the one before it does.
-fn ring_program(alloc: Global) -> Result<String, AllocError> {
-    let mut text = String::from_str(alloc, "asp 1 0 0\n")?;
-    write!(text, "1 0 1 1 0 1 {RING}\n")?;
-    for atom in 1..RING {
-        let next = atom + 1;
-        write!(text, "1 0 1 {next} 0 1 {atom}\n")?;
-    }
-    text.push_str("0\n")?;
-    Ok(text)
-}
-
 #[test]
 fn refuses_a_large_ring(rt: HostRuntime) -> Result<(), Fail> {
     let alloc = rt.alloc();
     let program = ring_program(alloc)?;
-    let end = End {
-        outcome: "TooLarge { number: 48000000 }",
-        status: 5,
-        said: "",
-        complaint: "asptools: too large: 48000000\n",
-    };
-    expect_end(&rt, alloc, UNIQUE, program.as_str(), end)?;
-    let made = made_of(&rt, alloc, PLAIN, program.as_str().as_bytes(), "out")?;
+    let text = program.as_str().as_bytes();
+    let end = failed(
+        "TooLarge { number: 48000000 }",
+        5,
+        "asptools: too large: 48000000\n",
+    );
+    expect_end(&rt, alloc, UNIQUE, &[("in", text)], end)?;
+    let made = made_of(&rt, alloc, PLAIN, text, "out")?;
     assert!(rt;
         made.as_slice()
             .starts_with(b"asp 1 0 0\n1 0 1 1 0 1 -4001\n")

@@ -1,25 +1,14 @@
 //! What is read of aspif texts, as the aspif text that is written of it.
 
+use super::tables::expect_written;
 use aspif_format::{read, write};
 use std::alloc::Global;
-use std::process::Abort;
 use std::test::Fail;
 
-/// Whether these are the same bytes.
-pub(crate) fn are_same(one: &[u8], other: &[u8]) -> bool {
-    one == other
-}
-
-/// Of the text's program just this is written, behind what is there.
-fn expect_written(rt: &impl Abort, alloc: Global, text: &str, written: &str) -> Result<(), Fail> {
+/// Writes the program of the text.
+fn rewrite(alloc: Global, text: &str, out: &mut Vec<u8>) -> Result<(), Fail> {
     let program = read(alloc, text.as_bytes())?;
-    let mut out = Vec::from_slice(alloc, b"x")?;
-    write(alloc, &program, &mut out)?;
-    let wanted = format!(in alloc; "x{written}")?;
-    assert!(rt;
-        are_same(out.as_slice(), wanted.as_str().as_bytes()),
-        "{text:?}"
-    );
+    write(alloc, &program, out)?;
     Ok(())
 }
 
@@ -51,9 +40,5 @@ fn reads_and_writes_aspif(rt: HostRuntime) -> Result<(), Fail> {
             "asp 1 0 0\n2 3 1 -2 4\n2 1 2 1 3 2 5\n6 3 -2 1 3\n0\n",
         ),
     ];
-    let alloc = rt.alloc();
-    for (text, written) in rows {
-        expect_written(&rt, alloc, text, written)?;
-    }
-    Ok(())
+    expect_written(&rt, rt.alloc(), "x", rewrite, &rows)
 }

@@ -1,9 +1,11 @@
 //! Runs of `check`: verdicts on sets of atoms, and what is said of them.
 
-use crate::runs::{End, done, expect_check, rejected};
-use crate::samples::{
+use super::runs::{End, done, expect_check, rejected};
+use super::samples::{
     CHOICE, CIRCLE, COLOURING, COUNTED, COUNTS, EDGES, LOOPS, REPEATED, RING, SHOWN, WEIGHTS,
 };
+use std::alloc::Global;
+use std::process::Abort;
 use std::test::Fail;
 
 /// The texts that `check` is given, and how it is to end.
@@ -44,6 +46,20 @@ const fn broken(
     }
 }
 
+/// The run over the texts of each row ends as the row says.
+fn expect_checks(rt: &impl Abort, alloc: Global, rows: &[Row]) -> Result<(), Fail> {
+    for row in rows {
+        expect_check(
+            rt,
+            alloc,
+            row.text.as_bytes(),
+            row.atoms.as_bytes(),
+            row.end,
+        )?;
+    }
+    Ok(())
+}
+
 /// The second of two alternatives is required.
 const REQUIRED: &str = "asp 1 0 0\n1 0 1 1 0 1 -2\n1 0 1 2 0 1 -1\n6 1 2\n0\n";
 
@@ -67,17 +83,7 @@ fn checks_sets(rt: HostRuntime) -> Result<(), Fail> {
         stable(RING, "", "stable\n"),
         stable(RING, "1 2 3 4 5\n", "stable\n"),
     ];
-    let alloc = rt.alloc();
-    for row in rows {
-        expect_check(
-            &rt,
-            alloc,
-            row.text.as_bytes(),
-            row.atoms.as_bytes(),
-            row.end,
-        )?;
-    }
-    Ok(())
+    expect_checks(&rt, rt.alloc(), &rows)
 }
 
 #[test]
@@ -107,15 +113,5 @@ fn checks_sets_of_choices_and_weights(rt: HostRuntime) -> Result<(), Fail> {
         ),
         unfounded(COLOURING, "1 4 5 8 9 10 11\n", "unfounded 10 11\n"),
     ];
-    let alloc = rt.alloc();
-    for row in rows {
-        expect_check(
-            &rt,
-            alloc,
-            row.text.as_bytes(),
-            row.atoms.as_bytes(),
-            row.end,
-        )?;
-    }
-    Ok(())
+    expect_checks(&rt, rt.alloc(), &rows)
 }

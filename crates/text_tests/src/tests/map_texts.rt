@@ -1,17 +1,13 @@
 //! Texts of maps: their first faults, and what is written of their maps.
 
-use crate::aspif_texts::are_same;
+use super::tables::{expect_fault, expect_faults, expect_written};
 use std::alloc::Global;
-use std::process::Abort;
 use std::test::Fail;
 use symbol_map::{MapKind, MapRefusal, read, write};
 
-/// The text has this fault at this line.
-fn expect_fault(rt: &impl Abort, alloc: Global, text: &str, line: u64, kind: MapKind) {
-    match read(alloc, text.as_bytes()) {
-        Ok(_) => assert!(rt; false, "{text:?} is read"),
-        Err(refusal) => assert_eq!(rt; refusal, MapRefusal::At { line, kind }, "{text:?}"),
-    }
+/// The first fault of a text.
+fn fault_of(alloc: Global, text: &str) -> Option<MapRefusal> {
+    read(alloc, text.as_bytes()).err()
 }
 
 #[test]
@@ -51,10 +47,7 @@ fn finds_bad_headers_and_orders(rt: HostRuntime) {
             MapKind::WrongOrder,
         ),
     ];
-    let alloc = rt.alloc();
-    for (text, line, kind) in rows {
-        expect_fault(&rt, alloc, text, line, kind);
-    }
+    expect_faults(&rt, rt.alloc(), fault_of, &rows);
 }
 
 #[test]
@@ -78,20 +71,14 @@ fn finds_bad_lines(rt: HostRuntime) {
     ];
     let alloc = rt.alloc();
     for (text, line) in rows {
-        expect_fault(&rt, alloc, text, line, MapKind::BadLine);
+        expect_fault(&rt, text, fault_of(alloc, text), line, MapKind::BadLine);
     }
 }
 
-/// Of the text's map just this is written, behind what is there.
-fn expect_written(rt: &impl Abort, alloc: Global, text: &str, written: &str) -> Result<(), Fail> {
+/// Writes the map of the text.
+fn rewrite(alloc: Global, text: &str, out: &mut Vec<u8>) -> Result<(), Fail> {
     let map = read(alloc, text.as_bytes())?;
-    let mut out = Vec::from_slice(alloc, b"x")?;
-    write(&map, &mut out)?;
-    let wanted = format!(in alloc; "x{written}")?;
-    assert!(rt;
-        are_same(out.as_slice(), wanted.as_str().as_bytes()),
-        "{text:?}"
-    );
+    write(&map, out)?;
     Ok(())
 }
 
@@ -105,9 +92,5 @@ fn reads_and_writes_maps(rt: HostRuntime) -> Result<(), Fail> {
             "map 1 wcnf 3\natom 1 1\natom 7 -2\nshow 4 a b) 1 -2\nshow 0  0\nlevel 2 2 1 3 3 -2\nlevel -1 0\nend\n",
         ),
     ];
-    let alloc = rt.alloc();
-    for (text, written) in rows {
-        expect_written(&rt, alloc, text, written)?;
-    }
-    Ok(())
+    expect_written(&rt, rt.alloc(), "x", rewrite, &rows)
 }

@@ -1,9 +1,9 @@
 //! Runs over real files, with standard output and standard error as files too.
 
-use crate::large::{pairs_formula, pairs_map, pairs_program};
-use crate::outside::Outside;
-use crate::runs::words_of;
-use crate::samples::{CHOICE_FORMULA, SHOWN, SHOWN_MAP};
+use super::large::{pairs_formula, pairs_map, pairs_program};
+use super::outside::Outside;
+use super::runs::words_of;
+use super::samples::{CHOICE_FORMULA, SHOWN, SHOWN_MAP};
 use asp_base::{HostDesk, Memory};
 use asp_tools::run;
 use std::alloc::Global;

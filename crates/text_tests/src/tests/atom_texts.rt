@@ -1,17 +1,15 @@
 //! Texts of atoms: their sets, and their first faults.
 
+use super::tables::{are_same, expect_faults};
 use ground_program::{ReadKind, ReadRefusal};
 use stable_check::read_atoms;
 use std::alloc::Global;
 use std::process::Abort;
 use std::test::Fail;
 
-/// The text has this fault at this line.
-fn expect_fault(rt: &impl Abort, alloc: Global, text: &str, line: u64, kind: ReadKind) {
-    match read_atoms(alloc, text.as_bytes()) {
-        Ok(_) => assert!(rt; false, "{text:?} is read"),
-        Err(refusal) => assert_eq!(rt; refusal, ReadRefusal::At { line, kind }, "{text:?}"),
-    }
+/// The first fault of a text.
+fn fault_of(alloc: Global, text: &str) -> Option<ReadRefusal> {
+    read_atoms(alloc, text.as_bytes()).err()
 }
 
 #[test]
@@ -23,10 +21,7 @@ fn finds_faults(rt: HostRuntime) {
         ("7\n\n1 1073741825 0", 3, ReadKind::AtomTooLarge),
         ("9223372036854775808", 1, ReadKind::TooWide),
     ];
-    let alloc = rt.alloc();
-    for (text, line, kind) in rows {
-        expect_fault(&rt, alloc, text, line, kind);
-    }
+    expect_faults(&rt, rt.alloc(), fault_of, &rows);
 }
 
 /// The text names just these atoms.
@@ -34,11 +29,6 @@ fn expect_atoms(rt: &impl Abort, alloc: Global, text: &str, atoms: &[u32]) -> Re
     let set = read_atoms(alloc, text.as_bytes())?;
     assert!(rt; are_same(set.atoms(), atoms), "{text:?}");
     Ok(())
-}
-
-/// Whether these are the same atoms.
-fn are_same(one: &[u32], other: &[u32]) -> bool {
-    one == other
 }
 
 #[test]

@@ -1,18 +1,20 @@
 //! Solvers' answers to a formula of three variables: their first faults, and what they say.
 
-use asp_base::{Lit, Memory};
+use super::tables::expect_faults;
+use asp_base::Lit;
 use back_map::{Answer, AnswerKind, AnswerRefusal, read_answer};
 use clause_store::Assignment;
 use std::alloc::Global;
-use std::process::Abort;
 use std::test::Fail;
 
-/// The text has this fault at this line.
-fn expect_fault(rt: &impl Abort, alloc: Global, text: &str, line: u64, kind: AnswerKind) {
-    match read_answer(alloc, text.as_bytes(), 3) {
-        Ok(_) => assert!(rt; false, "{text:?} is read"),
-        Err(refusal) => assert_eq!(rt; refusal, AnswerRefusal::At { line, kind }, "{text:?}"),
-    }
+/// What an answer says of three variables.
+fn read(alloc: Global, text: &str) -> Result<Answer, AnswerRefusal> {
+    read_answer(alloc, text.as_bytes(), 3)
+}
+
+/// The first fault of a text.
+fn fault_of(alloc: Global, text: &str) -> Option<AnswerRefusal> {
+    read(alloc, text).err()
 }
 
 #[test]
@@ -37,10 +39,7 @@ fn finds_faults(rt: HostRuntime) {
         ("v 1\nv 2 -1\nSAT\n", 2, AnswerKind::BothSigns),
         ("SAT\n-3 2 3\n", 2, AnswerKind::BothSigns),
     ];
-    let alloc = rt.alloc();
-    for (text, line, kind) in rows {
-        expect_fault(&rt, alloc, text, line, kind);
-    }
+    expect_faults(&rt, rt.alloc(), fault_of, &rows);
 }
 
 /// Which of the three variables are true.
@@ -54,7 +53,7 @@ fn is_true(values: &Assignment, var: u32) -> bool {
 
 /// The values of the variables that an answer gives.
 fn answered(alloc: Global, text: &str) -> Result<Option<[bool; 3]>, AnswerRefusal> {
-    match read_answer(alloc, text.as_bytes(), 3)? {
+    match read(alloc, text)? {
         Answer::Values(values) => Ok(Some(values_of(&values))),
         Answer::NoModel | Answer::Unknown => Ok(None),
     }
@@ -78,7 +77,7 @@ fn reads_values(rt: HostRuntime) -> Result<(), Fail> {
 
 /// Whether the answer says that there is no model; None where it gives values.
 fn denies(alloc: Global, text: &str) -> Result<Option<bool>, AnswerRefusal> {
-    match read_answer(alloc, text.as_bytes(), 3)? {
+    match read(alloc, text)? {
         Answer::Values(_) => Ok(None),
         Answer::NoModel => Ok(Some(true)),
         Answer::Unknown => Ok(Some(false)),

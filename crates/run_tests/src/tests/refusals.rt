@@ -1,7 +1,7 @@
 //! The first fault of each text that a run reads: each kind, with its line, and what is complained.
 
-use crate::runs::{Run, expect_run, refused};
-use crate::samples::{CHOICE, CLAUSES, NO_ATOMS};
+use super::runs::{expect_end, refused};
+use super::samples::{CHOICE, CLAUSES, NO_ATOMS};
 use asp_base::Memory;
 use std::alloc::Global;
 use std::process::Abort;
@@ -33,13 +33,8 @@ fn expect_refused(
         "Refused {{ file: {file}, line: {line}, kind: {sort}({kind}) }}"
     )?;
     let complaint = format!(in alloc; "asptools: {name}:{line}: {kind}\n")?;
-    let run = Run {
-        words: refusing.words,
-        texts: refusing.texts,
-        end: refused(outcome.as_str(), complaint.as_str()),
-        made: &[],
-    };
-    expect_run(rt, alloc, &run)
+    let end = refused(outcome.as_str(), complaint.as_str());
+    expect_end(rt, alloc, refusing.words, refusing.texts, end)
 }
 
 /// The text of a program is refused.

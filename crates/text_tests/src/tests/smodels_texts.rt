@@ -4,11 +4,10 @@ ghost use Rattle.std.specs.Prelude.{IsTrue};
 ghost use Rattle.std.specs.List.{AllByRecursion};
 ghost use Rattle.ground_program.specs.Facts.{IsShort};
 
-use crate::aspif_texts::are_same;
+use super::tables::{are_same, expect_written};
 use ground_program::{Level, Program, ReadRefusal, size};
 use smodels_format::{WriteRefusal, read, write};
 use std::alloc::Global;
-use std::process::Abort;
 use std::test::Fail;
 
 /// The program of a short text.
@@ -19,12 +18,10 @@ pub(crate) fn program_of(alloc: Global, text: &str) -> Result<Program, ReadRefus
     read(alloc, text.as_bytes())
 }
 
-/// Of the smodels text's program just this is written as aspif.
-fn expect_read(rt: &impl Abort, alloc: Global, text: &str, written: &str) -> Result<(), Fail> {
+/// Writes the program of the smodels text as aspif.
+fn write_aspif(alloc: Global, text: &str, out: &mut Vec<u8>) -> Result<(), Fail> {
     let program = program_of(alloc, text)?;
-    let mut out = Vec::new(alloc);
-    aspif_format::write(alloc, &program, &mut out)?;
-    assert!(rt; are_same(out.as_slice(), written.as_bytes()), "{text:?}");
+    aspif_format::write(alloc, &program, out)?;
     Ok(())
 }
 
@@ -44,11 +41,7 @@ fn reads_smodels(rt: HostRuntime) -> Result<(), Fail> {
              2 1 1 7 1\n2 0 2 -7 3 8 5\n4 8 a b)\tc   1 7\n6 2 3 -5\n0\n",
         ),
     ];
-    let alloc = rt.alloc();
-    for (text, written) in rows {
-        expect_read(&rt, alloc, text, written)?;
-    }
-    Ok(())
+    expect_written(&rt, rt.alloc(), "", write_aspif, &rows)
 }
 
 fn are_short(levels: &[Level]) -> bool
@@ -70,16 +63,10 @@ fn put(alloc: Global, program: &Program, out: &mut Vec<u8>) -> Result<(), WriteR
     write(alloc, program, out)
 }
 
-/// Of the aspif text's program just this is written, behind what is there.
-fn expect_written(rt: &impl Abort, alloc: Global, text: &str, written: &str) -> Result<(), Fail> {
+/// Writes the program of the aspif text as smodels.
+fn write_smodels(alloc: Global, text: &str, out: &mut Vec<u8>) -> Result<(), Fail> {
     let program = aspif_format::read(alloc, text.as_bytes())?;
-    let mut out = Vec::from_slice(alloc, b"x")?;
-    put(alloc, &program, &mut out)?;
-    let wanted = format!(in alloc; "x{written}")?;
-    assert!(rt;
-        are_same(out.as_slice(), wanted.as_str().as_bytes()),
-        "{text:?}"
-    );
+    put(alloc, &program, out)?;
     Ok(())
 }
 
@@ -98,11 +85,7 @@ fn writes_smodels(rt: HostRuntime) -> Result<(), Fail> {
             "5 5 0 2 1 2 1 5 3\n3 1 3 1 0 5\n1 4 1 0 1\n6 0 1 0 1 8\n6 0 1 1 2 7\n0\n0\nB+\n1\n0\nB-\n2\n4\n0\n1\n",
         ),
     ];
-    let alloc = rt.alloc();
-    for (text, written) in rows {
-        expect_written(&rt, alloc, text, written)?;
-    }
-    Ok(())
+    expect_written(&rt, rt.alloc(), "x", write_smodels, &rows)
 }
 
 /// Whether the text's program is refused, and what was there is as it was.

@@ -1,16 +1,13 @@
 //! The first faults of smodels texts.
 
-use crate::smodels_texts::program_of;
+use super::smodels_texts::program_of;
+use super::tables::expect_faults;
 use ground_program::{ReadKind, ReadRefusal};
 use std::alloc::Global;
-use std::process::Abort;
 
-/// The text has this fault at this line.
-fn expect_fault(rt: &impl Abort, alloc: Global, text: &str, line: u64, kind: ReadKind) {
-    match program_of(alloc, text) {
-        Ok(_) => assert!(rt; false, "{text:?} is read"),
-        Err(refusal) => assert_eq!(rt; refusal, ReadRefusal::At { line, kind }, "{text:?}"),
-    }
+/// The first fault of a text.
+fn fault_of(alloc: Global, text: &str) -> Option<ReadRefusal> {
+    program_of(alloc, text).err()
 }
 
 #[test]
@@ -32,10 +29,7 @@ fn finds_bad_rules(rt: HostRuntime) {
         ("6 1 1 0 2 1", 1, ReadKind::BadNumber),
         ("1 1 0 0 0", 1, ReadKind::TrailingText),
     ];
-    let alloc = rt.alloc();
-    for (text, line, kind) in rows {
-        expect_fault(&rt, alloc, text, line, kind);
-    }
+    expect_faults(&rt, rt.alloc(), fault_of, &rows);
 }
 
 #[test]
@@ -52,8 +46,5 @@ fn finds_bad_parts(rt: HostRuntime) {
         ("0\n0\nB+\n0\nB-\n0\n1 1\n", 7, ReadKind::TrailingText),
         ("0\n0\nB+\n0\nB-\n0\n1\n\n1\n", 9, ReadKind::TrailingText),
     ];
-    let alloc = rt.alloc();
-    for (text, line, kind) in rows {
-        expect_fault(&rt, alloc, text, line, kind);
-    }
+    expect_faults(&rt, rt.alloc(), fault_of, &rows);
 }

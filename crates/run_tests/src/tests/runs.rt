@@ -3,12 +3,12 @@
 ghost use Rattle.std.specs.Prelude.{◌≡◌, ◌≤◌, None, IfOk};
 ghost use Rattle.asp_base.specs.Mem.{mem_state};
 
-use crate::heard::HeardDesk;
-use crate::samples::SAT;
+use super::heard::HeardDesk;
 use asp_base::{MemDesk, Memory, Words};
 use asp_tools::{Outcome, run};
 use std::alloc::Global;
 use std::process::Abort;
+use std::test::Fail;
 
 /// How a run is to end.
 #[derive(Clone, Copy)]
@@ -33,14 +33,19 @@ pub(crate) const fn done(said: &str) -> End<'_> {
     }
 }
 
-/// A text is refused so.
-pub(crate) const fn refused<'t>(outcome: &'t str, complaint: &'t str) -> End<'t> {
+/// The job is not done, and this is complained.
+pub(crate) const fn failed<'t>(outcome: &'t str, status: u8, complaint: &'t str) -> End<'t> {
     End {
         outcome,
-        status: 2,
+        status,
         said: "",
         complaint,
     }
+}
+
+/// A text is refused so.
+pub(crate) const fn refused<'t>(outcome: &'t str, complaint: &'t str) -> End<'t> {
+    failed(outcome, 2, complaint)
 }
 
 /// What was given is not accepted for this reason.
@@ -91,39 +96,74 @@ pub(crate) fn expect_failing_run(
     Ok(())
 }
 
-/// A run over one text makes nothing and ends so.
-pub(crate) fn expect_end<'t>(
+/// A run over these texts makes nothing and ends so.
+pub(crate) fn expect_end(
     rt: &impl Abort,
     alloc: Global,
-    words: &'t [&'t str],
-    text: &'t str,
+    words: &[&str],
+    texts: &[(&str, &[u8])],
     end: End<'_>,
 ) -> Result<(), Memory> {
     let run = Run {
         words,
-        texts: &[("in", text.as_bytes())],
+        texts,
         end,
         made: &[],
     };
     expect_run(rt, alloc, &run)
 }
 
-/// A run of `lp2sat` makes these texts of that of a program.
+/// A run with the words of any row over these texts ends with bad words.
+pub(crate) fn expect_bad_words(
+    rt: &impl Abort,
+    alloc: Global,
+    texts: &[(&str, &[u8])],
+    rows: &[&[&str]],
+) -> Result<(), Fail> {
+    let end = failed("BadWords", 1, "asptools: bad words\n");
+    for words in rows {
+        expect_end(rt, alloc, words, texts, end)?;
+    }
+    Ok(())
+}
+
+/// A run with these words makes a formula and a map of the text of a program.
 pub(crate) fn expect_translation<'t>(
     rt: &impl Abort,
     alloc: Global,
+    words: &'t [&'t str],
     text: &'t [u8],
     formula: &'t [u8],
     map: &'t [u8],
 ) -> Result<(), Memory> {
     let made = [("out", formula), ("map", map)];
     let run = Run {
-        words: SAT,
+        words,
         texts: &[("in", text)],
         end: done(""),
         made: &made,
     };
     expect_run(rt, alloc, &run)
+}
+
+/// A run with these words makes of the text of each row the row's formula and map.
+pub(crate) fn expect_translations(
+    rt: &impl Abort,
+    alloc: Global,
+    words: &[&str],
+    rows: &[(&str, &str, &str)],
+) -> Result<(), Fail> {
+    for (text, formula, map) in rows {
+        expect_translation(
+            rt,
+            alloc,
+            &*words,
+            text.as_bytes(),
+            formula.as_bytes(),
+            map.as_bytes(),
+        )?;
+    }
+    Ok(())
 }
 
 /// A run of `check` over these texts ends so.
@@ -135,13 +175,7 @@ pub(crate) fn expect_check<'t>(
     end: End<'_>,
 ) -> Result<(), Memory> {
     let texts = [("in", text), ("atoms", atoms)];
-    let run = Run {
-        words: &["check", "in", "atoms"],
-        texts: &texts,
-        end,
-        made: &[],
-    };
-    expect_run(rt, alloc, &run)
+    expect_end(rt, alloc, &["check", "in", "atoms"], &texts, end)
 }
 
 /// A run of `back` over these texts ends so.
@@ -154,13 +188,28 @@ pub(crate) fn expect_judgement<'t>(
     end: End<'_>,
 ) -> Result<(), Memory> {
     let texts = [("f", formula), ("m", map), ("a", answer)];
-    let run = Run {
-        words: &["back", "f", "m", "a"],
-        texts: &texts,
+    expect_end(rt, alloc, &["back", "f", "m", "a"], &texts, end)
+}
+
+/// An answer to the formula that a run with these words makes of a program, with its map, is judged so.
+pub(crate) fn expect_judged(
+    rt: &impl Abort,
+    alloc: Global,
+    words: &[&str],
+    text: &str,
+    answer: &str,
+    end: End<'_>,
+) -> Result<(), Memory> {
+    let formula = made_of(rt, alloc, words, text.as_bytes(), "out")?;
+    let map = made_of(rt, alloc, words, text.as_bytes(), "map")?;
+    expect_judgement(
+        rt,
+        alloc,
+        formula.as_slice(),
+        map.as_slice(),
+        answer.as_bytes(),
         end,
-        made: &[],
-    };
-    expect_run(rt, alloc, &run)
+    )
 }
 
 /// What a run over one text makes under this name. The run is done.

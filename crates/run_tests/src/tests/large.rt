@@ -1,7 +1,7 @@
 //! Runs over large texts, which are made by a loop.
 
-use crate::runs::{done, expect_check, expect_judgement, expect_translation, made_of};
-use crate::samples::SAT;
+use super::runs::{done, expect_check, expect_judgement, expect_translation, made_of};
+use super::samples::SAT;
 use asp_base::Memory;
 use std::alloc::{AllocError, Global};
 use std::process::Abort;
@@ -67,6 +67,7 @@ fn translate_pairs(rt: &impl Abort, alloc: Global) -> Result<(), Memory> {
     expect_translation(
         rt,
         alloc,
+        SAT,
         program.as_str().as_bytes(),
         formula.as_str().as_bytes(),
         map.as_str().as_bytes(),
@@ -102,10 +103,11 @@ fn judges_many_clauses(rt: HostRuntime) -> Result<(), Fail> {
 /// The last atom of a chain.
 const CHAIN: u32 = 10000;
 
-/// The atom 1, and each atom up to the last from the one before it.
-fn chain_program(alloc: Global) -> Result<String, AllocError> {
-    let mut text = String::from_str(alloc, "asp 1 0 0\n1 0 1 1 0 0\n")?;
-    for atom in 1..CHAIN {
+/// The atom 1 by this rule, and each atom up to the last one from the one before it.
+fn steps_program(alloc: Global, first: &str, last: u32) -> Result<String, AllocError> {
+    let mut text = String::from_str(alloc, "asp 1 0 0\n")?;
+    text.push_str(first)?;
+    for atom in 1..last {
         let next = atom + 1;
         write!(text, "1 0 1 {next} 0 1 {atom}\n")?;
     }
@@ -149,7 +151,7 @@ fn expect_stable(rt: &impl Abort, alloc: Global, program: &str, atoms: &str) -> 
 #[test]
 fn checks_many_rules(rt: HostRuntime) -> Result<(), Fail> {
     let alloc = rt.alloc();
-    let program = chain_program(alloc)?;
+    let program = steps_program(alloc, "1 0 1 1 0 0\n", CHAIN)?;
     let atoms = atoms_text(alloc, "", CHAIN + 1)?;
     expect_stable(&rt, alloc, program.as_str(), atoms.as_str())?;
     Ok(())
@@ -170,15 +172,9 @@ fn counts_many_atoms(rt: HostRuntime) -> Result<(), Fail> {
 const RING: u32 = 4000;
 
 /// Each atom of the ring holds where the one before it does.
-fn ring_program(alloc: Global) -> Result<String, AllocError> {
-    let mut text = String::from_str(alloc, "asp 1 0 0\n")?;
-    write!(text, "1 0 1 1 0 1 {RING}\n")?;
-    for atom in 1..RING {
-        let next = atom + 1;
-        write!(text, "1 0 1 {next} 0 1 {atom}\n")?;
-    }
-    text.push_str("0\n")?;
-    Ok(text)
+pub(crate) fn ring_program(alloc: Global) -> Result<String, AllocError> {
+    let first = format!(in alloc; "1 0 1 1 0 1 {RING}\n")?;
+    steps_program(alloc, first.as_str(), RING)
 }
 
 #[test]

@@ -1,21 +1,11 @@
 //! Runs over a desk of which a call fails: what stands afterwards, and what is complained.
 
-use crate::runs::{End, Run, expect_failing_run};
-use crate::samples::{CHOICE, CHOICE_FORMULA, CHOICE_MAP, CLAUSES, NO_ATOMS};
+use super::runs::{End, Run, expect_failing_run, failed};
+use super::samples::{CHOICE, CHOICE_FORMULA, CHOICE_MAP, CLAUSES, NO_ATOMS};
 use asp_base::Memory;
 use std::alloc::Global;
 use std::process::Abort;
 use std::test::Fail;
-
-/// A file can't be read or written.
-fn fault<'t>(outcome: &'t str, status: u8, complaint: &'t str) -> End<'t> {
-    End {
-        outcome,
-        status,
-        said: "",
-        complaint,
-    }
-}
 
 /// A run of `lp2sat` over a desk that moves 16 bytes a call, and of which the call of this number fails: how it ends,
 /// and what is made.
@@ -38,7 +28,7 @@ fn expect_failing<'t>(
 #[test]
 fn reading_may_fail(rt: HostRuntime) -> Result<(), Fail> {
     let alloc = rt.alloc();
-    let end = fault("ReadFault { file: 1 }", 6, "asptools: cannot read in\n");
+    let end = failed("ReadFault { file: 1 }", 6, "asptools: cannot read in\n");
     // The begin, and four reads, of which the last gives nothing.
     for failing in [1, 2, 3, 5] {
         expect_failing(&rt, alloc, failing, end, &[])?;
@@ -51,8 +41,8 @@ fn writing_may_fail(rt: HostRuntime) -> Result<(), Fail> {
     let formula = CHOICE_FORMULA.as_bytes();
     let map = CHOICE_MAP.as_bytes();
     let begun = b"p cnf 2 4\n-1 -2 ".as_slice();
-    let no_formula = fault("WriteFault { file: 2 }", 7, "asptools: cannot write out\n");
-    let no_map = fault("WriteFault { file: 3 }", 7, "asptools: cannot write map\n");
+    let no_formula = failed("WriteFault { file: 2 }", 7, "asptools: cannot write out\n");
+    let no_map = failed("WriteFault { file: 3 }", 7, "asptools: cannot write map\n");
     // A begin, three writes and an end for each text, behind five calls that read.
     let rows: [(u64, End<'_>, &[(&str, &[u8])]); 8] = [
         (6, no_formula, &[]),
@@ -86,7 +76,7 @@ fn expect_unsaid(
     let run = Run {
         words,
         texts,
-        end: fault(
+        end: failed(
             "WriteFault { file: 0 }",
             7,
             "asptools: cannot write standard output\n",

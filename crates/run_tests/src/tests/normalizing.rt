@@ -1,7 +1,9 @@
 //! Runs of `lp2normal`: what is written, byte for byte, and what `check` says of it.
 
-use crate::runs::{End, Run, done, expect_check, expect_end, expect_run, made_of, refused};
-use crate::samples::{ASPIF, CHOICE, COLOURING, COUNTED, COUNTS, EDGES, REPEATED, SAT, WEIGHTS};
+use super::runs::{
+    Run, done, expect_bad_words, expect_check, expect_end, expect_run, failed, made_of, refused,
+};
+use super::samples::{ASPIF, CHOICE, COLOURING, COUNTED, COUNTS, EDGES, REPEATED, SAT, WEIGHTS};
 use asp_base::Memory;
 use std::alloc::{AllocError, Global};
 use std::process::Abort;
@@ -171,14 +173,14 @@ fn counts_by_networks(rt: HostRuntime) -> Result<(), Fail> {
 fn rooms_have_a_limit(rt: HostRuntime) -> Result<(), Fail> {
     let alloc = rt.alloc();
     let text = counting(alloc, 10000, 10001, 0)?;
-    let end = End {
-        outcome: "TooLarge { number: 17650003 }",
-        status: 5,
-        said: "",
-        complaint: "asptools: too large: 17650003\n",
-    };
+    let texts = [("in", text.as_str().as_bytes())];
+    let end = failed(
+        "TooLarge { number: 17650003 }",
+        5,
+        "asptools: too large: 17650003\n",
+    );
     for words in [ASPIF, SAT] {
-        expect_end(&rt, alloc, words, text.as_str(), end)?;
+        expect_end(&rt, alloc, words, &texts, end)?;
     }
     Ok(())
 }
@@ -189,7 +191,7 @@ fn smodels_text_has_no_edges(rt: HostRuntime) -> Result<(), Fail> {
         "Refused { file: 1, line: 0, kind: NotSmodels }",
         "asptools: in: NotSmodels\n",
     );
-    expect_end(&rt, rt.alloc(), SMODELS, EDGES, end)?;
+    expect_end(&rt, rt.alloc(), SMODELS, &[("in", EDGES.as_bytes())], end)?;
     Ok(())
 }
 
@@ -201,17 +203,7 @@ fn flags_come_first_and_once(rt: HostRuntime) -> Result<(), Fail> {
         &["lp2normal", "--smodels", "in"],
         &["lp2sat", "--smodels", "in", "out", "map"],
     ];
-    let end = End {
-        outcome: "BadWords",
-        status: 1,
-        said: "",
-        complaint: "asptools: bad words\n",
-    };
-    let alloc = rt.alloc();
-    for words in rows {
-        expect_end(&rt, alloc, words, CHOICE, end)?;
-    }
-    Ok(())
+    expect_bad_words(&rt, rt.alloc(), &[("in", CHOICE.as_bytes())], &rows)
 }
 
 /// Choices of 10^4 atoms.
@@ -243,12 +235,6 @@ fn normalizes_many_rules(rt: HostRuntime) -> Result<(), Fail> {
     let alloc = rt.alloc();
     let text = many_choices(alloc)?;
     let made = many_complements(alloc)?;
-    let run = Run {
-        words: ASPIF,
-        texts: &[("in", text.as_str().as_bytes())],
-        end: done(""),
-        made: &[("out", made.as_str().as_bytes())],
-    };
-    expect_run(&rt, alloc, &run)?;
+    expect_normal(&rt, alloc, ASPIF, text.as_str(), made.as_str())?;
     Ok(())
 }
