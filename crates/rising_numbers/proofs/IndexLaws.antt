@@ -1,12 +1,12 @@
 -- What a search among rising numbers finds, and what an index to their places keeps.
-use Rattle.std.proofs.Common.{◌≡◌, sym, ◌∙◌, ap, subst, ℕ, ◌+◌, ◌-◌, ◌*◌, ◌/◌, ◌<◌, ◌≤◌, true, false, List, [], ◌∷◌, ◌++◌, length, get_or, take, drop, replicate, ⊎_elim, add-one, arith}
+use Rattle.std.proofs.Common.{◌≡◌, sym, ◌∙◌, ap, subst, ℕ, ◌+◌, ◌-◌, ◌*◌, ◌/◌, ◌<◌, ◌≤◌, ◌==◌, cond, true, false, Option, Some, None, MatchOption, List, [], ◌∷◌, ◌++◌, length, get_or, set, take, replicate, ⊎_elim, add-one, arith}
 use Rattle.std.specs.List.Sorted.{IsStrictlyIncreasing}
-use Rattle.std.proofs.lemmas.Bool.{false_from_ne_true, true≢false, cases_lt}
+use Rattle.std.proofs.lemmas.Bool.{cases_eq, cases_lt, cond-false, cond-true, eq-eqb, false_from_ne_true, ne_eqb}
 use Rattle.std.proofs.lemmas.Grind.{common_steps}
 use Rattle.std.proofs.lemmas.List.{get_or_append_left, get_or_push, length_push}
 use Rattle.asp_base.specs.Sets.{members}
 use Rattle.rising_numbers.specs.Rising.{place}
-use Rattle.rising_numbers.specs.private.Index.{CountsFromOne, Splits, AreStarts}
+use Rattle.rising_numbers.specs.private.Index.{AreOffsets, AreStarts, CountsFromOne, IsBehind, Splits, StandsAt, stands_by}
 use Rattle.rising_numbers.proofs.RisingLaws.{Ascends-from_increasing, members-at, index_of_member, rises_by}
 use Rattle.rising_numbers.proofs.PlaceLaws.{place-at_index}
 
@@ -99,64 +99,110 @@ begun-all numbers starts b = record {
     size : length (starts ++ length numbers ∷ []) ≡ length starts + 1
     size = length_push starts (length numbers)
 
--- ---- a search in a block
+-- ---- offsets in blocks
 
--- what is searched: the numbers from one index on, before another
-abbrev pub part : List ℕ → ℕ → ℕ → List ℕ
-part xs start end = take (end - start) (drop start xs)
+-- one more than the last is above all
+pub behind-last : (numbers : List ℕ) (last : ℕ) → IsStrictlyIncreasing numbers → 0 < length numbers → last ≡ get_or numbers (length numbers - 1) 0 → IsBehind numbers (last + 1)
+behind-last numbers last up some is = record {
+  below = λ i low. let rise : get_or numbers i 0 + (length numbers - 1 - i) ≤ get_or numbers (length numbers - 1) 0 = rises_by numbers up i (length numbers - 1) (omega arith) (omega arith) in omega (arith, rise, is);
+  least = λ above. (some, omega (arith, is));
+}
 
-pub block-within : (numbers starts : List ℕ) (block : ℕ) → AreStarts numbers starts → block + 1 < length starts
-    → (get_or starts block 0 ≤ get_or starts (block + 1) 0) × (get_or starts (block + 1) 0 ≤ length numbers)
-block-within numbers starts block a h = (
-  ⊎_elim
-      (λ less. let below : get_or numbers (get_or starts (block + 1) 0) 0 < 32 * block = one.below (get_or starts (block + 1) 0) less in
-      let within : get_or starts block 0 ≤ length numbers = one.within in
-      let above : 32 * (block + 1) ≤ get_or numbers (get_or starts (block + 1) 0) 0 = next.above (get_or starts (block + 1) 0) (omega arith) (omega arith) in
-      absurd (omega arith))
-      (λ le. le)
-      (cases_lt (get_or starts (block + 1) 0) (get_or starts block 0)),
-  next.within,
-)
+-- what is found among the first numbers
+abbrev pub FoundAmong : List ℕ → ℕ → ℕ → Option ℕ → Type 0
+FoundAmong numbers index n found =
+    MatchOption found ((j : ℕ) → j < index → get_or numbers j 0 ≡ n → ⊥)
+    (λ j. (j < index) × (get_or numbers j 0 ≡ n))
+
+-- the offsets of the first numbers
+abbrev pub Offset : List ℕ → List ℕ → ℕ → List ℕ → Type 0
+Offset numbers starts index offsets = (n : ℕ) → n < length offsets → FoundAmong numbers index n (stands_by starts offsets n)
+
+-- the next number stands behind the start of its block, and not far
+pub start-before : (numbers starts : List ℕ) (index : ℕ) → IsStrictlyIncreasing numbers → AreStarts numbers starts → index < length numbers
+    → (get_or numbers index 0 / 32 < length starts) × (get_or starts (get_or numbers index 0 / 32) 0 ≤ index) × (index - get_or starts (get_or numbers index 0 / 32) 0 < 32)
+start-before numbers starts index up a below = (within, before, near)
   where
-    one : Splits numbers (32 * block) (get_or starts block 0)
-    one = a.splits block (omega arith)
+    number : ℕ
+    number = get_or numbers index 0
 
-    next : Splits numbers (32 * (block + 1)) (get_or starts (block + 1) 0)
-    next = a.splits (block + 1) h
+    within : number / 32 < length starts
+    within =
+        let some : 0 < length starts = a.some in
+        let all : get_or starts (length starts - 1) 0 ≡ length numbers = a.last in
+        let low : get_or numbers index 0 < 32 * (length starts - 1) = (a.splits (length starts - 1) (omega arith)).below index (omega arith) in
+        omega arith
 
-pub part-rises : (xs : List ℕ) (start end : ℕ) → IsStrictlyIncreasing xs → IsStrictlyIncreasing (part xs start end)
-part-rises xs start end up k below = grind (arith, common_steps, up (start + k))
-
-pub part-found : (xs : List ℕ) (start end number i : ℕ) → (i < length (part xs start end)) × (get_or (part xs start end) i 0 ≡ number)
-    → (start + i < length xs) × (get_or xs (start + i) 0 ≡ number)
-part-found xs start end number i at = (grind (arith, common_steps, at.0), grind (arith, common_steps, at.0, at.1))
-
-pub block-not_found : (numbers starts : List ℕ) (number : ℕ) → AreStarts numbers starts → number / 32 + 1 < length starts
-    → members (part numbers (get_or starts (number / 32) 0) (get_or starts (number / 32 + 1) 0)) number ≡ false → members numbers number ≡ false
-block-not_found numbers starts number a h none = no_member numbers number at
-  where
     one : Splits numbers (32 * (number / 32)) (get_or starts (number / 32) 0)
-    one = a.splits (number / 32) (omega arith)
+    one = a.splits (number / 32) within
 
-    next : Splits numbers (32 * (number / 32 + 1)) (get_or starts (number / 32 + 1) 0)
-    next = a.splits (number / 32 + 1) h
+    before : get_or starts (number / 32) 0 ≤ index
+    before = ⊎_elim
+        (λ (late : index < get_or starts (number / 32) 0). let low : get_or numbers index 0 < 32 * (number / 32) = one.below index late in absurd (omega arith))
+        (λ le. le)
+        (cases_lt index (get_or starts (number / 32) 0))
 
-    among : List ℕ
-    among = part numbers (get_or starts (number / 32) 0) (get_or starts (number / 32 + 1) 0)
+    near : index - get_or starts (number / 32) 0 < 32
+    near =
+        let first : 32 * (number / 32) ≤ get_or numbers (get_or starts (number / 32) 0) 0 = one.above (get_or starts (number / 32) 0) (omega arith) (omega (arith, before)) in
+        let rise : get_or numbers (get_or starts (number / 32) 0) 0 + (index - get_or starts (number / 32) 0) ≤ number = rises_by numbers up (get_or starts (number / 32) 0) index before below in
+        omega arith
 
-    at : (i : ℕ) → i < length numbers → get_or numbers i 0 ≡ number → ⊥
-    at i below e =
-        let from : i < get_or starts (number / 32) 0 → get_or numbers i 0 < 32 * (number / 32) = one.below i in
-        let to : get_or starts (number / 32 + 1) 0 ≤ i → 32 * (number / 32 + 1) ≤ get_or numbers i 0 = λ p. next.above i p below in
-        let start : get_or starts (number / 32) 0 ≤ i = grind arith in
-        let end : i < get_or starts (number / 32 + 1) 0 = grind arith in
-        let inside : i - get_or starts (number / 32) 0 < length among = grind (arith, common_steps) in
-        let is : get_or among (i - get_or starts (number / 32) 0) 0 ≡ number = grind (arith, common_steps) in
-        true≢false (sym (stands-member among number (i - get_or starts (number / 32) 0) (inside, is)) ∙ none)
+pub offset-none : (numbers starts offsets : List ℕ) → ((n : ℕ) → n < length offsets → get_or offsets n 0 ≡ 255) → Offset numbers starts 0 offsets
+offset-none numbers starts offsets all n below =
+    subst (FoundAmong numbers 0 n) (sym (cond-true (get_or offsets n 0 == 255) None (Some (get_or starts (n / 32) 0 + get_or offsets n 0)) (eq-eqb (get_or offsets n 0) 255 (all n below)))) (λ j low. absurd (omega arith))
 
-pub behind-not_found : (numbers starts : List ℕ) (number : ℕ) → AreStarts numbers starts → length starts ≤ number / 32 + 1 → members numbers number ≡ false
-behind-not_found numbers starts number a h = no_member numbers number (λ i below e.
-    let some : 0 < length starts = a.some in
-    let all : get_or starts (length starts - 1) 0 ≡ length numbers = a.last in
-    let low : get_or numbers i 0 < 32 * (length starts - 1) = (a.splits (length starts - 1) (omega arith)).below i (omega arith) in
-    omega arith)
+pub offset-more : (numbers starts offsets : List ℕ) (index : ℕ) → IsStrictlyIncreasing numbers → AreStarts numbers starts → index < length numbers
+    → get_or numbers index 0 < length offsets → Offset numbers starts index offsets
+    → Offset numbers starts (index + 1) (set offsets (get_or numbers index 0) (index - get_or starts (get_or numbers index 0 / 32) 0))
+offset-more numbers starts offsets index up a below inside so_far n h = ⊎_elim
+    (λ (same : n ≡ number). subst (FoundAmong numbers (index + 1) n) (sym (here same)) (omega arith, sym same))
+    (λ (other : n ≡ number → ⊥). subst (FoundAmong numbers (index + 1) n) (sym (there other)) (more (stands_by starts offsets n) other (so_far n (omega (arith, size, h)))))
+    (cases_eq n number)
+  where
+    number : ℕ
+    number = get_or numbers index 0
+
+    offset : ℕ
+    offset = index - get_or starts (number / 32) 0
+
+    near : (number / 32 < length starts) × (get_or starts (number / 32) 0 ≤ index) × (offset < 32)
+    near = start-before numbers starts index up a below
+
+    size : length (set offsets number offset) ≡ length offsets
+    size = grind (arith, common_steps)
+
+    here : n ≡ number → stands_by starts (set offsets number offset) n ≡ Some index
+    here same =
+        let is : get_or (set offsets number offset) n 0 ≡ offset = grind (arith, common_steps, same, inside) in
+        let place : get_or starts (n / 32) 0 + get_or (set offsets number offset) n 0 ≡ index = omega (arith, is, near.1, ap (λ m. get_or starts (m / 32) 0) same) in
+        cond-false (get_or (set offsets number offset) n 0 == 255) None (Some (get_or starts (n / 32) 0 + get_or (set offsets number offset) n 0))
+        (ne_eqb (get_or (set offsets number offset) n 0) 255 (λ e. omega (arith, is, e, near.2)))
+        ∙ ap Some place
+
+    there : (n ≡ number → ⊥) → stands_by starts (set offsets number offset) n ≡ stands_by starts offsets n
+    there other =
+        let is : get_or (set offsets number offset) n 0 ≡ get_or offsets n 0 = grind (arith, common_steps, other) in
+        ap (λ m. cond (m == 255) None (Some (get_or starts (n / 32) 0 + m))) is
+
+    more : (found : Option ℕ) → (n ≡ number → ⊥) → FoundAmong numbers index n found → FoundAmong numbers (index + 1) n found
+    more None other none = λ j low e. ⊎_elim
+        (λ (old : j < index). none j old e)
+        (λ (last : index ≤ j). let is : j ≡ index = omega arith in other (sym e ∙ ap (λ k. get_or numbers k 0) is))
+        (cases_lt j index)
+    more (Some j) other at = (omega (arith, at.0), at.1)
+
+pub offsets-all : (numbers starts offsets : List ℕ) → IsStrictlyIncreasing numbers → AreStarts numbers starts → IsBehind numbers (length offsets) → Offset numbers starts (length numbers) offsets → AreOffsets numbers starts offsets
+offsets-all numbers starts offsets up a behind all = record {
+  within = λ n below.
+      let least = behind.least (omega arith) in
+      let near : (get_or numbers (length numbers - 1) 0 / 32 < length starts) × (get_or starts (get_or numbers (length numbers - 1) 0 / 32) 0 ≤ length numbers - 1) × (length numbers - 1 - get_or starts (get_or numbers (length numbers - 1) 0 / 32) 0 < 32) =
+      start-before numbers starts (length numbers - 1) up a (omega (arith, least.0)) in
+      omega (arith, below, least.1, near.0);
+  stands = λ n below. found (stands_by starts offsets n) n (all n below);
+  past = λ n above. no_member numbers n (λ i below e. let low : get_or numbers i 0 < length offsets = behind.below i below in omega (arith, low, e, above));
+}
+  where
+    found : (f : Option ℕ) (n : ℕ) → FoundAmong numbers (length numbers) n f → StandsAt numbers n f
+    found None n none = no_member numbers n none
+    found (Some j) n at = at
