@@ -1,13 +1,12 @@
 -- Steps of normalization: what stays from stage to stage, the atoms of a choice one after another,
 -- and what is spent.
-use Rattle.std.proofs.Common.{◌≡◌, refl, sym, ◌∙◌, ap, subst, ℤ, pos, negsuc, neg_ℤ, ◌≤ℤ◌, ◌-◌, to_z, of_z, w64, ℕ, zero, suc, ◌+◌, ◌*◌, ◌<◌, ◌≤◌, ◌^◌, ◌==◌, ◌⊎◌, inl, Bool, true, false, List, [], ◌∷◌, ◌++◌, length, take, get_or, arith, ⊎_elim}
+use Rattle.std.proofs.Common.{◌≡◌, refl, sym, ◌∙◌, ap, subst, ℕ, zero, suc, ◌+◌, ◌*◌, ◌<◌, ◌≤◌, ◌^◌, ◌==◌, ◌⊎◌, inl, Bool, true, false, List, [], ◌∷◌, ◌++◌, length, take, get_or, arith, ⊎_elim}
 use Rattle.std.specs.List.{AllByRecursion}
 use Rattle.std.proofs.lemmas.Bool.{or_cases, or_right, true≢false, eqb-true}
 use Rattle.std.proofs.lemmas.List.{take_more}
-use Rattle.std.proofs.lemmas.Int.{to_z-of_z, ints}
 use Rattle.asp_base.specs.Literal.{Literal, atom_of}
 use Rattle.asp_base.specs.Sets.{Set, members}
-use Rattle.ground_program.specs.Facts.{HeadFits, BodyFits, RuleFits, FitsWeight}
+use Rattle.ground_program.specs.Facts.{HeadFits, BodyFits, RuleFits}
 use Rattle.ground_program.specs.Stable.{step}
 use Rattle.ground_program.specs.declared.program.Head.{Head}
 use Rattle.ground_program.specs.declared.program.Head.TheVariants.{Nothing, One, Choice}
@@ -143,17 +142,6 @@ pub rule-lits : (s : Stage) (rule : Rule) (lits : List Literal)
 rule-lits s rule lits f e =
     each-weaker _ _ (λ l k. atoms-known s (atom_of l) k) lits
     ((subst (BodyFits (λ a. atoms_of s a ≡ true)) e f.1).1)
-
--- a bound that fits is read back
-pub bound-back : (bound : ℤ) → FitsWeight bound → to_z w64 (of_z w64 bound) ≡ bound
-bound-back (pos n) f =
-    let h : pos n ≤ℤ pos (2 ^ 31 - 1) = f.1 in
-    let l : n < 2 ^ 63 = omega (arith, ints) in
-    to_z-of_z w64 (pos n) (record { sfits = l })
-bound-back (negsuc n) f =
-    let h : neg_ℤ (pos (2 ^ 31 - 1)) ≤ℤ negsuc n = f.0 in
-    let l : n < 2 ^ 63 = omega (arith, ints) in
-    to_z-of_z w64 (negsuc n) (record { sfits = l })
 
 -- ---- the sum itself
 

@@ -5,10 +5,11 @@ use Rattle.std.proofs.lemmas.Bool.{false_from_ne_true, or_cases, or_left, or_rig
 use Rattle.asp_base.specs.Sets.{Set, union}
 use Rattle.ground_program.specs.Stable.{step}
 use Rattle.ground_program.specs.declared.program.Rule.{Rule}
+use Rattle.ground_program.proofs.Least.{step-append}
 use Rattle.asp_base.proofs.Bools.{or_false}
 use Rattle.asp_base.proofs.Each.{each-append}
 use Rattle.normalize.specs.private.Replacement.{Near, RulesIn, headless_holds, Respects, Replaces}
-use Rattle.normalize.proofs.Reading.{step-append, headless-append, Closed-first, Closed-second, step-near, headless-near, step-none, rules-wider}
+use Rattle.normalize.proofs.Reading.{headless-append, Closed-first, Closed-second, step-near, headless-near, step-none, rules-wider}
 
 -- tests on variables
 first_wider : (f g k : Bool) → (f || k) ≡ true → ((f || g) || k) ≡ true

@@ -33,7 +33,7 @@ use Rattle.normalize.specs.private.Stage.{Stage, IsStage, known, start, Turns, S
 use Rattle.ground_program.specs.Normal.{IsNormalHead, IsNormalBody, AreNormal}
 use Rattle.normalize.proofs.Reading.{rules-wider}
 
-abbrev ground : List ℕ → List Rule → List Literal → List Edge → List Level → List Show → Ground
+abbrev pub ground : List ℕ → List Rule → List Literal → List Edge → List Level → List Show → Ground
 ground atoms rules required edges levels shows =
     record {
       atoms = atoms;
@@ -260,15 +260,7 @@ pub finish-program : (P v : Ground) → v ≡ P → (t w : Stage) → w ≡ t �
     (levels : List Level) (shows : List Show) →
     atoms ≡ rising (v.atoms ++ flat_map atoms_of_rule w.rules) → rules ≡ w.rules
     → required ≡ v.required → edges ≡ v.edges → levels ≡ v.levels → shows ≡ v.shows →
-    IsProgram (record {
-      atoms = atoms;
-      rules = rules;
-      required = required;
-      edges = edges;
-      levels =
-          levels;
-      shows = shows;
-    })
+    IsProgram (ground atoms rules required edges levels shows)
 finish-program P v e t w d f small is p spent atoms rules required edges levels shows a r q g l
     s =
     subst IsProgram

@@ -8,25 +8,20 @@ use Rattle.ground_program.specs.Dependencies.{positives_of_literals}
 use Rattle.ground_program.specs.Fresh.{IsLeastFree, taken, least_free}
 use Rattle.ground_program.specs.declared.program.Head.TheVariants.{One}
 use Rattle.ground_program.specs.declared.program.Body.TheVariants.{All}
-use Rattle.ground_program.specs.declared.program.Rule.{Rule}
 use Rattle.ground_program.proofs.FreshLaws.{least_free-is}
 use Rattle.rule_network.specs.Block.{Block, empty_block, IsBlock, Known, AllKnown, with_atom, with_cell}
 use Rattle.rule_network.proofs.BlockLaws.{IsBlock-with_atom, IsBlock-with_rule, all_before-new}
 use Rattle.rule_network.proofs.CellLaws.{all-defines}
 use Rattle.normalize.specs.private.Added.{AddsAnswer}
-use Rattle.normalize.specs.private.Stage.{Stage, IsStage, known, LitsKnown, Answers}
+use Rattle.normalize.specs.private.Stage.{Stage, IsStage, known, LitsKnown, Answers, rule_over}
 use Rattle.normalize.proofs.DistinctLaws.{members-each}
 use Rattle.normalize.proofs.StageLaws.{begun-all, Answers-block}
 use Rattle.normalize.proofs.Stages.{stage}
 
--- y :- B
-abbrev pub naming : ℕ → List Literal → Rule
-naming y lits = record { head = One y; body = All lits }
-
 -- with a rule for one more atom
 abbrev pub named : Stage → ℕ → List Literal → Stage
 named v y lits =
-    stage (v.rules ++ (naming y lits ∷ []))
+    stage (v.rules ++ (rule_over (One y) lits ∷ []))
     (record v.supply { given = v.supply.given ++ (y ∷ []) }) v.pairs
 
 module _ (v : Stage) (is : IsStage v) (lits : List Literal) (over : LitsKnown v lits)
@@ -73,7 +68,7 @@ module _ (v : Stage) (is : IsStage v) (lits : List Literal) (over : LitsKnown v 
   name-adds = record {
     adds = record {
       drawn = y ∷ [];
-      new = naming y lits ∷ [];
+      new = rule_over (One y) lits ∷ [];
       rules = refl;
       given = refl;
       apart = ((free.positive, free.free), tt);

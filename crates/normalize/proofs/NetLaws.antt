@@ -17,6 +17,7 @@ use Rattle.ground_program.specs.declared.program.Head.TheVariants.{Nothing, One,
 use Rattle.ground_program.specs.declared.program.Body.{Body}
 use Rattle.ground_program.specs.declared.program.Body.TheVariants.{All, Sum}
 use Rattle.ground_program.specs.declared.program.Rule.{Rule}
+use Rattle.ground_program.proofs.RoomLaws.{bound-back}
 use Rattle.rule_network.specs.Block.{Block, empty_block, IsBlock, IsRead, ReadsInputs, RuleFitsBlock, Known, is_input, is_taken, these_or_all, closure, value, Grew, Adds as NetAdds, HasRoom, drawn, block_size}
 use Rattle.rule_network.proofs.GrowthLaws.{Grew-refl, grew-counts, grew-split}
 use Rattle.rule_network.proofs.InputLaws.{block-reads, items-known}
@@ -27,7 +28,6 @@ use Rattle.normalize.specs.private.Added.{IsMade, IsLower, Adds, AddsAnswer}
 use Rattle.normalize.specs.private.Stage.{Stage, IsStage, atoms_of, known, reach_lits, Turns, Answers, SumAnswers, HasRoomFor, Spends}
 use Rattle.normalize.proofs.DistinctLaws.{members-each}
 use Rattle.normalize.proofs.StageLaws.{atoms-known, known-wider, begun-closure, Turns-nothing, Answers-same, Answers-block}
-use Rattle.normalize.proofs.GoingOn.{bound-back}
 use Rattle.normalize.proofs.Stages.{stage, stages-same}
 
 -- ---- sums of weights

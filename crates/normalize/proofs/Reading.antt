@@ -1,26 +1,25 @@
 -- What rules derive and say depends on the atoms of their bodies and heads alone.
-use Rattle.std.proofs.Common.{◌≡◌, refl, sym, ◌∙◌, ap, ap₂, subst, ℕ, ℤ, pos, ◌+ℤ◌, int_le, Bool, true, false, cond, not, ◌&&◌, ◌||◌, List, [], ◌∷◌, ◌++◌, ⊎_elim}
+use Rattle.std.proofs.Common.{◌≡◌, refl, sym, ◌∙◌, ap, ap₂, subst, ℕ, ℤ, pos, ◌+ℤ◌, int_le, true, false, cond, not, ◌&&◌, ◌||◌, List, [], ◌∷◌, ◌++◌, ⊎_elim}
 use Rattle.std.specs.List.{AllByRecursion}
 use Rattle.std.proofs.lemmas.Bool.{false_from_ne_true, and_parts, or_cases, or_left, or_right, true≢false, eqb-true}
 use Rattle.std.proofs.lemmas.List.Folds.{list_any-append}
 use Rattle.asp_base.specs.Literal.{Literal, Pos, Neg, atom_of, literal_holds, all_hold}
 use Rattle.asp_base.specs.Sets.{Set, members, Within, Same}
-use Rattle.ground_program.specs.Closed.{HasWeights, Weighed, Closed}
+use Rattle.ground_program.specs.Closed.{Weighed, Closed}
 use Rattle.ground_program.specs.Facts.{Among, HeadFits, BodyFits, RuleFits}
-use Rattle.ground_program.specs.Stable.{weight_of, holds, head_has, derives, step, is_headless}
+use Rattle.ground_program.specs.Stable.{weight_of, holds, head_has, step, is_headless}
 use Rattle.ground_program.specs.declared.program.Head.{Head}
 use Rattle.ground_program.specs.declared.program.Head.TheVariants.{Nothing, One, Choice}
 use Rattle.ground_program.specs.declared.program.Body.{Body}
 use Rattle.ground_program.specs.declared.program.Body.TheVariants.{All, Sum}
 use Rattle.ground_program.specs.declared.program.Rule.{Rule}
+use Rattle.ground_program.proofs.Least.{step-append}
+use Rattle.ground_program.proofs.FactLaws.{body-weights}
 use Rattle.asp_base.proofs.Each.{each-weaker, each-member}
+use Rattle.asp_base.proofs.Bools.{and_same}
 use Rattle.normalize.specs.private.Replacement.{Near, BodyIn, HeadIn, RulesIn, headless_holds}
 
 -- ---- lists of rules one behind another
-
-pub step-append : (rules more : List Rule) (M X : Set) (a : ℕ)
-    → step (rules ++ more) M X a ≡ (step rules M X a || step more M X a)
-step-append rules more M X a = list_any-append (λ rule. derives rule M X a) rules more
 
 pub headless-append : (rules more : List Rule) (X M : Set)
     → headless_holds (rules ++ more) X M ≡ (headless_holds rules X M || headless_holds more X M)
@@ -36,10 +35,6 @@ pub Closed-second : (rules more : List Rule) (M Z : Set) → Closed (rules ++ mo
 Closed-second rules more M Z c a e = c a (step-append rules more M Z a ∙ or_right _ _ e)
 
 -- ---- what is read
-
-and-same : (b p q : Bool) → (b ≡ true → p ≡ q) → (b && p) ≡ (b && q)
-and-same true p q h = h refl
-and-same false p q h = refl
 
 module _ (there X Y M N : Set) (x : Near there X Y) (m : Near there M N) where
   literal-near : (l : Literal) → there (atom_of l) ≡ true
@@ -75,7 +70,7 @@ pub head-near : (heads M N : Set) → Near heads M N → (head : Head) (a : ℕ)
 head-near heads M N m Nothing a h = refl
 head-near heads M N m (One b) a h = refl
 head-near heads M N m (Choice as_) a h =
-    and-same (members as_ a) (M a) (N a) (λ e. m a (each-member (λ b. heads b ≡ true) as_ a h e))
+    and_same (members as_ a) (M a) (N a) (λ e. m a (each-member (λ b. heads b ≡ true) as_ a h e))
 
 pub step-near : (heads there X Y M N : Set) → Near there X Y → Near there M N → Near heads M N
     → (rules : List Rule) → RulesIn heads there rules → Same (step rules M X) (step rules N Y)
@@ -139,10 +134,6 @@ rules-wider heads heads2 there there2 h k rules f =
 
 -- ---- rules of a program
 
-weights-of : (atoms : List ℕ) (body : Body) → BodyFits (Among atoms) body → HasWeights body
-weights-of atoms (All lits) h = tt
-weights-of atoms (Sum bound items) h = each-weaker _ _ (λ item k. k.1.0) items h.2
-
 body-of : (atoms : List ℕ) (body : Body) → BodyFits (Among atoms) body
     → BodyIn (members atoms) body
 body-of atoms (All lits) h = h.1
@@ -163,5 +154,5 @@ rules-of atoms rules f =
       head = head-of atoms rule.head h.0;
       body = body-of atoms rule.body h.1;
       weights =
-          weights-of atoms rule.body h.1;
+          body-weights atoms rule.body h.1;
     }) rules f

@@ -71,7 +71,26 @@ Replaces-sets atoms known known2 F F2 before after old new E k f p =
     subst (λ K. Replaces atoms K F2 before after old new E) (equal known known2 k)
     (subst (λ G. Replaces atoms known G before after old new E) (equal F F2 f) p)
 
--- rules over what was known behind others
+-- rules over what was known derive and say the same where others were replaced
+module _ (atoms known F : Set) (before mid : List (ℕ × ℕ)) (old new more : List Rule)
+    (E : Set → Set → Set) (over : RulesIn atoms known more)
+    (p : Replaces atoms known F before mid old new E) where
+  near : (X N : Set) → Near known (E X N) X
+  near X N b h = p.outside X N b (off b h)
+    where
+      off : (b : ℕ) → known b ≡ true → F b ≡ false
+      off b h =
+          false_from_ne_true (F b) (λ e. true≢false (sym h ∙ p.apart b e))
+
+  pub step-stays : (X N : Set) → Same (step more N (E X N)) (step more N X)
+  step-stays X N a =
+      step-near atoms known (E X N) X N N (near X N) (λ b h. refl) (λ b h. refl) more over a
+
+  pub headless-stays : (X N : Set) → headless_holds more (E X N) N ≡ headless_holds more X N
+  headless-stays X N =
+      headless-near known (E X N) X N N (near X N) (λ b h. refl) atoms more over
+
+-- such rules behind others
 pub Replaces-more : (atoms known F G : Set) (before mid after : List (ℕ × ℕ))
     (old1 new1 old2 new2 : List Rule) (E1 E2 : Set → Set → Set) →
     RulesIn atoms known old2 → Replaces atoms known F before mid old1 new1 E1
@@ -80,13 +99,5 @@ pub Replaces-more : (atoms known F G : Set) (before mid after : List (ℕ × ℕ
     (λ X N. E2 (E1 X N) N)
 Replaces-more atoms known F G before mid after old1 new1 old2 new2 E1 E2 over p q =
     Replaces-then atoms known F G before mid after old1 new1 old2 old2 new2 E1 E2 p q
-    (λ X N r a e. step-near atoms known (E1 X N) X N N (near X N) (λ b h. refl) (λ b h. refl) old2
-    over a)
-    (λ X N r. headless-near known (E1 X N) X N N (near X N) (λ b h. refl) atoms old2 over)
-  where
-    near : (X N : Set) → Near known (E1 X N) X
-    near X N b h = p.outside X N b (off b h)
-      where
-        off : (b : ℕ) → known b ≡ true → F b ≡ false
-        off b h =
-            false_from_ne_true (F b) (λ e. true≢false (sym h ∙ p.apart b e))
+    (λ X N r a e. step-stays atoms known F before mid old1 new1 old2 E1 over p X N a)
+    (λ X N r. headless-stays atoms known F before mid old1 new1 old2 E1 over p X N)

@@ -22,7 +22,7 @@ use Rattle.normalize.specs.private.Replacement.{RuleIn, RulesIn, headless_holds,
 use Rattle.normalize.specs.private.Stage.{Stage, atoms_of, known, PairsIn, Listed, IsNormal, Turns, Answers, choice_of, choosing, complement_rule}
 use Rattle.ground_program.specs.Normal.{IsNormalHead, IsNormalBody}
 use Rattle.normalize.proofs.Joining.{Replaces-then}
-use Rattle.normalize.proofs.SamePieces.{same_set, Replaces-same, Replaces-as, Replaces-sets, Replaces-more}
+use Rattle.normalize.proofs.SamePieces.{same_set, Replaces-same, Replaces-as, Replaces-sets, step-stays, headless-stays}
 use Rattle.normalize.proofs.BlockPieces.{Replaces-block}
 use Rattle.normalize.proofs.ChoicePieces.{with_complement, Replaces-chosen, Replaces-complement}
 
@@ -78,22 +78,12 @@ module _ (s t u : Stage) (old1 old2 between : List Rule) (p : Turns old1 s t)
 module _ (s t u : Stage) (old1 old2 : List Rule) (over : RulesIn (atoms_of s) (known s) old2)
     (p : Turns old1 s t) (q : Turns old2 t u) where
   pub Turns-then : Turns (old1 ++ old2) s u
-  Turns-then = record {
-    new = p.new ++ q.new;
-    fresh = union p.fresh q.fresh;
-    extend = λ X N. q.extend (p.extend X N) N;
-    rules = q.rules ∙ (ap (λ rules. rules ++ q.new) p.rules ∙ append_assoc s.rules p.new q.new);
-    atoms = q.atoms ∙ p.atoms;
-    normal = each-append _ p.new q.new p.normal q.normal;
-    taken =
-        λ a. q.taken a
-        ∙ (ap (λ b. q.fresh a || b) (p.taken a) ∙ around (p.fresh a) (q.fresh a) (known s a));
-    pairs = q.pairs;
-    replaces =
-        Replaces-more (atoms_of s) (known s) p.fresh q.fresh s.pairs t.pairs u.pairs old1 p.new old2
-        q.new p.extend q.extend over p.replaces
-        (later s t p.fresh q.fresh u.pairs old2 q.new q.extend p.atoms p.taken q.replaces);
-  }
+  Turns-then =
+      Turns-through s t u old1 old2 old2 p q
+      (λ X N a e. step-stays (atoms_of s) (known s) p.fresh s.pairs t.pairs old1 p.new old2
+      p.extend over p.replaces X N a)
+      (λ X N. headless-stays (atoms_of s) (known s) p.fresh s.pairs t.pairs old1 p.new old2
+      p.extend over p.replaces X N)
 
 -- a rule over literals that answer its body
 pub Turns-behind : (s t u : Stage) (head : Head) (body : Body) (lits : List Literal)

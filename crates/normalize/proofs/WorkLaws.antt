@@ -73,6 +73,11 @@ atom-fits s v e is a h = is.atoms a (atoms-known v a (subst (λ w. atoms_of w a 
 pub moved : (R : Stage → Stage → Type 0) (s v t u : Stage) → v ≡ s → t ≡ u → R v u → R s t
 moved R s v t u e f h = subst₂ R e (sym f) h
 
+-- what the rules of a choice of one atom leave
+pub record Chosen (a : ℕ) (lits : List Literal) (s t : Stage) : Type 0 where
+  pub turns : Turns (choice_of (a ∷ []) lits ∷ []) s t
+  pub adds : Adds (a ∷ []) (positives_of_literals lits) s t
+
 module _ (s v : Stage) (e : v ≡ s) (is : IsStage v) (a : ℕ) (lits : List Literal)
     (at : atoms_of s a ≡ true) (over : LitsKnown s lits) where
   at-now : atoms_of v a ≡ true
@@ -89,16 +94,12 @@ module _ (s v : Stage) (e : v ≡ s) (is : IsStage v) (a : ℕ) (lits : List Lit
     chosen-is = ap (λ rs. stage rs v.supply v.pairs)
         (r ∙ ap (λ bs. v.rules ++ (record { head = One a; body = All bs } ∷ [])) b)
 
-    pub chosen-turns : Listed v.pairs a x
-        → Turns (choice_of (a ∷ []) lits ∷ []) s (stage rules v.supply v.pairs)
-    chosen-turns h =
-        moved (Turns (choice_of (a ∷ []) lits ∷ [])) s v _ _ e chosen-is
-        (Turns-chosen v is.pairs a x lits at-now over-now h)
-
-    pub chosen-adds : Adds (a ∷ []) (positives_of_literals lits) s (stage rules v.supply v.pairs)
-    chosen-adds =
-        moved (Adds (a ∷ []) (positives_of_literals lits)) s v _ _ e chosen-is
-        (Adds-chosen v a x lits)
+    pub chosen-leaves : Listed v.pairs a x → Chosen a lits s (stage rules v.supply v.pairs)
+    chosen-leaves h =
+        moved (Chosen a lits) s v _ _ e chosen-is (record {
+          turns = Turns-chosen v is.pairs a x lits at-now over-now h;
+          adds = Adds-chosen v a x lits;
+        })
 
   -- the rules of a choice whose complement is new
   module _ (x : ℕ) (body refuted : List Literal) (first rules : List Rule) (supply : Supply)
@@ -125,16 +126,12 @@ module _ (s v : Stage) (e : v ≡ s) (is : IsStage v) (a : ℕ) (lits : List Lit
     complement-is : stage rules supply pairs ≡ with_complement
     complement-is = stages-same _ _ _ _ _ _ all-rules u p
 
-    pub complement-turns : Turns (choice_of (a ∷ []) lits ∷ []) s (stage rules supply pairs)
-    complement-turns =
-        moved (Turns (choice_of (a ∷ []) lits ∷ [])) s v _ _ e complement-is
-        (Turns-complement v is.pairs a x lits at-now over-now free.free)
-
-    pub complement-adds :
-        Adds (a ∷ []) (positives_of_literals lits) s (stage rules supply pairs)
-    complement-adds =
-        moved (Adds (a ∷ []) (positives_of_literals lits)) s v _ _ e complement-is
-        (Adds-complement v a x lits free.positive free.free)
+    pub complement-leaves : Chosen a lits s (stage rules supply pairs)
+    complement-leaves =
+        moved (Chosen a lits) s v _ _ e complement-is (record {
+          turns = Turns-complement v is.pairs a x lits at-now over-now free.free;
+          adds = Adds-complement v a x lits free.positive free.free;
+        })
 
 -- with one more number
 module _ (v : Stage) (is : IsStage v) (x : ℕ) (supply : Supply) (rules : List Rule)

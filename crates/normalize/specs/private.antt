@@ -5,3 +5,4 @@ pub mod Inside
 pub mod Made
 pub mod Replacement
 pub mod Stage
+pub mod Standing

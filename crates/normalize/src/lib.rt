@@ -2,7 +2,6 @@
 #![tactic(auto)]
 
 mod complements;
-mod copies;
 mod given;
 mod normalization;
 mod work;

@@ -11,6 +11,7 @@ ghost use Rattle.ground_program.specs.Room.{room};
 ghost use Rattle.ground_program.specs.Size.{size};
 ghost use Rattle.ground_program.specs.Tangle.{AreCyclicComponents, pairs, tangle};
 ghost use Rattle.normalize.specs.Kept.{SameRest, RefusedAs, room_limit, with_facts};
+ghost use Rattle.normalize.specs.private.Standing.{StandsFor};
 
 use crate::work::turned;
 use asp_base::Memory;
@@ -68,17 +69,8 @@ pub fn normal(alloc: Global, program: &Program) -> Result<Program, NormalRefusal
 
 /// The same where the room suffices.
 fn normal_within_room(alloc: Global, program: &Program) -> Result<Program, Memory>
-    requires room { room program.now ≤ 2 ^ 24 }
-    ensures normal { IfOk result (λ made. AreNormal made.rules) }
-    ensures faithful { IfOk result (λ made. Faithful program.now made) }
-    ensures facts { IfOk result (λ made. (facts : List ℕ) → AllByRecursion (Among program.now.atoms) facts
-        → Faithful (with_facts facts program.now) (with_facts facts made)) }
-    ensures atoms { IfOk result (λ made. Within (members program.now.atoms) (members made.atoms)) }
-    ensures rest { IfOk result (SameRest program.now) }
-    ensures size { IfOk result (λ made. size made ≤ room program.now) }
-    ensures same { IfOk result (λ made. AreNormal program.now.rules → made ≡ program.now) }
-    ensures tangle { IfOk result (λ made. (own parts : List (List ℕ)) → AreCyclicComponents made.rules own
-        → AreCyclicComponents program.now.rules parts → pairs made.rules own ≤ tangle program.now.rules parts) }
+    requires { room program.now ≤ 2 ^ 24 }
+    ensures { IfOk result (StandsFor program.now) }
 {
     let work = turned(alloc, program)?;
     work.finish(program)

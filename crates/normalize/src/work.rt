@@ -23,9 +23,11 @@ ghost use Rattle.normalize.specs.private.Replacement.{HeadIn};
 ghost use Rattle.normalize.specs.private.Stage.{Stage, IsStage, start, rule_over, with_rule, atoms_of, Listed, LitsKnown, IsNormal, IsSum, is_idle, Turns, Answers, SumAnswers, reach_lits, sum_room, HasRoomFor, Spends, choice_of};
 
 use crate::complements::Complements;
-use crate::copies::{copied_edges, copied_levels, copied_shows};
 use asp_base::{Lit, Memory};
-use ground_program::{Atoms, Body, FreshAtoms, Head, LitList, Program, Rule, RuleList, push_rules};
+use ground_program::{
+    Atoms, Body, FreshAtoms, Head, LitList, Program, Rule, RuleList, copied_edges, copied_levels,
+    copied_shows, push_rules,
+};
 use rule_network::Network;
 use std::alloc::Global;
 use std::marker::Model;
@@ -282,21 +284,6 @@ impl Work {
         }
     }
 
-    /// The rules that stand for a rule with a head.
-    fn stood(self, rule: &Rule) -> Result<Work, Memory>
-        requires room { HasRoomFor (term rule.now) self }
-        requires fits { RuleFits (λ a. atoms_of self a ≡ true) rule.now }
-        ensures turns { IfOk result (λ work. Turns (rule.now ∷ []) self work) }
-        ensures spends { IfOk result (λ work. Spends (term rule.now) self work) }
-        ensures adds { IfOk result (λ work. AddsRule rule.now self work) }
-        ensures same { IfOk result (λ work. IsNormal rule.now → work ≡ with_rule rule.now self) }
-    {
-        match &rule.body {
-            Body::All(lits) => self.over(&rule.head, lits.as_slice()),
-            Body::Sum { .. } => self.summed(rule),
-        }
-    }
-
     /// The rules that stand for a rule. A choice without atoms is left out.
     fn rule(self, rule: &Rule) -> Result<Work, Memory>
         requires room { HasRoomFor (term rule.now) self }
@@ -311,7 +298,10 @@ impl Work {
         if is_idle(&rule.head) {
             return Ok(self);
         }
-        self.stood(rule)
+        match &rule.body {
+            Body::All(lits) => self.over(&rule.head, lits.as_slice()),
+            Body::Sum { .. } => self.summed(rule),
+        }
     }
 
     /// The program with these rules in the place of its own.

@@ -7,6 +7,7 @@ ghost use Rattle.asp_base.specs.Literal.{Pos, atom_of, is_positive};
 ghost use Rattle.asp_base.specs.Sets.{members};
 ghost use Rattle.ground_program.specs.Dependencies.{positives_of_body};
 ghost use Rattle.ground_program.specs.Fresh.{Supply};
+ghost use Rattle.rule_network.specs.private.Inside.{inputs_of};
 ghost use Rattle.rule_network.specs.Block.{IsBlock, AllBefore, empty_block, next_atom, with_atom, with_rule, drawn};
 
 use asp_base::{Lit, Memory};
@@ -42,13 +43,7 @@ impl<'a> Network<'a> {
     pub fn new(alloc: Global, fresh: FreshAtoms) -> Network<'a>
         ensures { result ≡ empty_block fresh None }
     {
-        Network {
-            alloc,
-            fresh,
-            made: Vec::new(alloc),
-            rules: RuleList::from_vec(Vec::new(alloc)),
-            body: None,
-        }
+        Network::over(alloc, fresh, None)
     }
 
     /// No atoms and no rules yet. The inputs are the positive atoms of the body: whatever is built over the literals of
@@ -56,12 +51,19 @@ impl<'a> Network<'a> {
     pub fn for_body(alloc: Global, fresh: FreshAtoms, body: &'a Body) -> Network<'a>
         ensures { result ≡ empty_block fresh (Some (positives_of_body body.now)) }
     {
+        Network::over(alloc, fresh, Some(body))
+    }
+
+    /// No atoms and no rules yet, over what the body gives as inputs.
+    fn over(alloc: Global, fresh: FreshAtoms, body: Option<&'a Body>) -> Network<'a>
+        ensures { result ≡ empty_block fresh (inputs_of body.entry) }
+    {
         Network {
             alloc,
             fresh,
             made: Vec::new(alloc),
             rules: RuleList::from_vec(Vec::new(alloc)),
-            body: Some(body),
+            body,
         }
     }
 

@@ -1,10 +1,10 @@
 -- A literal for a sum of weights, level by level.
 use Rattle.std.proofs.Common.{◌≡◌, refl, sym, ◌∙◌, ap, ap₂, subst, ℕ, zero, suc, ◌+◌, ◌*◌, ◌/◌, ◌%◌, ◌-◌, ◌≤◌, ◌<◌, Bool, true, leb, List, [], ◌∷◌, ◌++◌, map, replicate, length, get_or, arith, length-append}
 use Rattle.std.specs.List.{AllByRecursion}
-use Rattle.std.proofs.lemmas.List.{length-map, map-append, length-replicate, get_or-map}
+use Rattle.std.proofs.lemmas.List.{map-append, length-replicate, get_or-map}
 use Rattle.std.proofs.lemmas.List.Sums.{sum_by-cons}
 use Rattle.asp_base.specs.Literal.{Literal}
-use Rattle.asp_base.specs.Sets.{Set, none}
+use Rattle.asp_base.specs.Sets.{Set}
 use Rattle.asp_base.proofs.Each.{each-append}
 use Rattle.ground_program.specs.Digits.{digits}
 use Rattle.ground_program.specs.Radix.{total, rest_sum, divided}
@@ -12,10 +12,11 @@ use Rattle.ground_program.specs.Room.{network_measure}
 use Rattle.ground_program.proofs.RadixLaws.{total-cons}
 use Rattle.rule_network.specs.Block.{Block, Known, AllKnown, HasRoom, Grew, Defines, Adds, value, values}
 use Rattle.rule_network.specs.Truths.{count, ones}
-use Rattle.rule_network.proofs.TruthLaws.{count_le-length, count-append, length-ones, ones-at}
+use Rattle.rule_network.proofs.TruthLaws.{count-map, count-append, ones-at}
 use Rattle.rule_network.proofs.GrowthLaws.{Grew-trans, known-kept, value-kept}
 use Rattle.rule_network.proofs.CellLaws.{adds-more, adds-same}
 use Rattle.rule_network.proofs.EntryLaws.{each-entry}
+use Rattle.merge_networks.proofs.SortedLaws.{length-ordered}
 use Rattle.merge_networks.specs.Networks.{Orders, SortCost, HasSortRoom}
 use Rattle.weight_rules.specs.private.Kept.{ItemsKnown}
 use Rattle.weight_rules.specs.private.Levels.{held, rests, picked, truths, rest_lits, all_lits, Carries}
@@ -107,26 +108,13 @@ count-top net X M items carries =
 
 -- ---- the ordered list
 
-few : (net : Block) (X M : Set) (lits : List Literal) → count (values net X M lits) ≤ length lits
-few net X M lits =
-    let h : count (values net X M lits) ≤ length (values net X M lits) =
-    count_le-length (values net X M lits) in
-    let e : length (values net X M lits) ≡ length lits = length-map lits (value net X M) in
-    omega arith
-
-pub length-sorted : (old new : Block) (lits list : List Literal) → Orders old new lits list
-    → length list ≡ length lits
-length-sorted old new lits list o =
-    sym (length-map list (value new none none)) ∙ ap length (o.says none none)
-    ∙ length-ones (count (values old none none lits)) (length lits)
-
 -- the entry at the place k says that at least k of the literals hold
 pub entry-defines : (old new : Block) (lits sorted : List Literal) (k : ℕ) (cell : Literal) → 0 < k
     → k ≤ length lits
     → Orders old new lits sorted → cell ≡ get_or sorted (k - 1) cell
     → Defines old new cell (λ X M. leb k (count (values old X M lits)))
 entry-defines old new lits sorted k cell o l orders at =
-    let s : length sorted ≡ length lits = length-sorted old new lits sorted orders in
+    let s : length sorted ≡ length lits = length-ordered old new lits sorted orders in
     let e : suc (k - 1) ≡ k = omega arith in
     record {
       grew = orders.grew;
@@ -134,7 +122,7 @@ entry-defines old new lits sorted k cell o l orders at =
       says = λ X M. ap (value new X M) at
           ∙ sym (get_or-map (value new X M) sorted (k - 1) cell true (omega arith))
           ∙ ap (λ bs. get_or bs (k - 1) true) (orders.says X M)
-          ∙ ones-at (count (values old X M lits)) (length lits) (k - 1) true (few old X M lits)
+          ∙ ones-at (count (values old X M lits)) (length lits) (k - 1) true (count-map (value old X M) lits)
           (omega arith)
           ∙ ap (λ j. leb j (count (values old X M lits))) e;
     }
@@ -195,12 +183,12 @@ level-carries old mid items carries sorted next b t l orders is =
       entries = ap length is ∙ length-picked b (b - t - 1) sorted
           ∙ count-carries b t (length sorted) (length sorted) l (omega arith)
           ∙ ap (λ n. (n + t) / b)
-          (length-sorted old mid list sorted orders ∙ length-level b items carries);
+          (length-ordered old mid list sorted orders ∙ length-level b items carries);
       says = λ X M. ap (λ lits. count (values mid X M lits)) is
           ∙ ap count
           (map-picked (value mid X M) b (b - t - 1) sorted
           ∙ ap (picked b (b - t - 1)) (orders.says X M))
-          ∙ count-carries b t (count (values old X M list)) (length list) l (few old X M list)
+          ∙ count-carries b t (count (values old X M list)) (length list) l (count-map (value old X M) list)
           ∙ ap (λ n. (n + t) / b) (count-level old X M b items carries);
     }
 

@@ -4,7 +4,7 @@
 ghost use Rattle.std.specs.Prelude.{◌≡◌, ◌==◌, ◌≤◌, ◌<◌, ◌^◌, true, leb, length, IfOk, OnOk};
 ghost use Rattle.std.specs.List.{list_all};
 ghost use Rattle.ground_program.specs.Radix.{cut_weights, total};
-ghost use Rattle.ground_program.specs.Room.{equal_measure, least_number, levels_measure, items_measure};
+ghost use Rattle.ground_program.specs.Room.{equal_measure, least_number, items_measure};
 ghost use Rattle.rule_network.specs.Block.{HasRoom, Defines, Adds};
 ghost use Rattle.weight_rules.specs.private.Kept.{ItemsKnown};
 ghost use Rattle.weight_rules.specs.private.Levels.{held, truths};
@@ -45,37 +45,6 @@ fn equal_reached(
     at_least(alloc, net, lits.as_slice(), k as usize)
 }
 
-/// A literal that holds exactly where the items reach the bound, level by level. The given items were cut to these.
-fn levels_reached(
-    alloc: Global,
-    net: &mut Network<'_>,
-    given: &[(Lit, i64)],
-    items: &mut [(Lit, u64)],
-    bound: u64,
-) -> Result<Lit, Memory>
-    requires positive { 0 < bound }
-    requires small { bound < 2 ^ 63 }
-    requires cut { items.old ≡ cut_weights bound given.now }
-    requires enough { bound ≤ total items.old }
-    requires room { HasRoom (levels_measure 64 bound items.old 0) net.old }
-    requires items { ItemsKnown net.old items.old }
-    ensures reaches { IfOk result (λ lit.
-        Defines net.old net.new lit (λ X M. leb bound (held (truths net.old X M items.old)))) }
-    ensures adds { let m = levels_measure 64 bound items.old 0 in OnOk result (Adds m m net.old net.new) }
-{
-    let plan = plan(alloc, given, bound as i64)?;
-    let carries = LitList::new(alloc);
-    reached(
-        alloc,
-        net,
-        items,
-        carries.as_slice(),
-        bound,
-        plan.radices.as_slice(),
-        plan.tares.as_slice(),
-    )
-}
-
 /// A literal that holds exactly where the items reach the bound. The given items were cut to these.
 pub(crate) fn cut_sum_reached(
     alloc: Global,
@@ -99,5 +68,15 @@ pub(crate) fn cut_sum_reached(
     if are_equal(items, weight) {
         return equal_reached(alloc, net, items, weight, bound);
     }
-    levels_reached(alloc, net, given, items, bound)
+    let plan = plan(alloc, given, bound as i64)?;
+    let carries = LitList::new(alloc);
+    reached(
+        alloc,
+        net,
+        items,
+        carries.as_slice(),
+        bound,
+        plan.radices.as_slice(),
+        plan.tares.as_slice(),
+    )
 }

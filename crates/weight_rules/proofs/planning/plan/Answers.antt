@@ -1,3 +1,4 @@
+-- One more radix, and where none follows, the plan.
 use Rattle.std.proofs.Common.{◌≡◌, ◌∙◌, ◌≤◌, ◌<◌, ◌+◌, ◌*◌, ◌/◌, ◌^◌, ℕ, pos, nat_abs, to_z, of_z, w64, None, refl, sym, subst, subst₂, [], arith, rules}
 use Rattle.std.proofs.lemmas.Int.{to_z-of_z, to_z_pos}
 use Rattle.std.proofs.lemmas.List.{append-nil}
@@ -6,33 +7,39 @@ use Rattle.ground_program.proofs.RadixLaws.{tare-below, bound-less}
 use Rattle.weight_rules.specs.Plan.{Follows}
 use Rattle.weight_rules.proofs.PlanLaws.{IsFound, found, number-small, number-back, radix-none, plan-more, base-grows}
 use Rattle.weight_rules.proofs.planning.plan.Goals as goal
+use Rattle.weight_rules.proofs.planning.plan.Goals.{In-Some}
+
+is_found : (c : In-Some)
+    → IsFound c.args.items.now (number_of (to_z w64 (of_z w64 c.args.bound))) c.levels.base
+    c.in-Some.next (nat_abs (to_z w64 (of_z w64 c.in-Some.next)))
+is_found c =
+    found c.args.items.now c.args.bound c.in-Some.next c.levels.base c.ranges.bound
+    c.levels.invariant.base_most (sym c.in-Some.is ∙ c.radix.ensures)
+
+grows : (c : In-Some)
+    → (c.levels.base < c.levels.base * nat_abs (to_z w64 (of_z w64 c.in-Some.next)))
+    × (c.levels.base * nat_abs (to_z w64 (of_z w64 c.in-Some.next))
+    ≤ number_of (to_z w64 (of_z w64 c.args.bound)))
+grows c =
+    base-grows (number_of (to_z w64 (of_z w64 c.args.bound))) c.levels.base
+    (nat_abs (to_z w64 (of_z w64 c.in-Some.next))) c.levels.invariant.base_least (is_found c).low
+    (is_found c).high (is_found c).most
 
 pub tare_of-tare-requires : goal.tare_of-tare-requires
 tare_of-tare-requires c =
-    let is : IsFound c.args.items.now (number_of (to_z w64 (of_z w64 c.args.bound))) c.levels.base
-    c.in-Some.next (nat_abs (to_z w64 (of_z w64 c.in-Some.next))) =
-    found c.args.items.now c.args.bound c.in-Some.next c.levels.base c.ranges.bound
-    c.levels.invariant.base_most (sym c.in-Some.is ∙ c.radix.ensures) in
-    omega (arith, is.low)
+    omega (arith, (is_found (goal.at.tare_of-tare-requires c).In-Some).low)
 
 pub nonzero_div-top : goal.nonzero_div-top
 nonzero_div-top c =
-    let is : IsFound c.args.items.now (number_of (to_z w64 (of_z w64 c.args.bound))) c.levels.base
-    c.in-Some.next (nat_abs (to_z w64 (of_z w64 c.in-Some.next))) =
-    found c.args.items.now c.args.bound c.in-Some.next c.levels.base c.ranges.bound
-    c.levels.invariant.base_most (sym c.in-Some.is ∙ c.radix.ensures) in
-    omega (arith, is.low)
+    omega (arith, (is_found (goal.at.nonzero_div-top c).In-Some).low)
 
 pub overflow_mul-base : goal.overflow_mul-base
 overflow_mul-base c =
     let k : ℕ = number_of (to_z w64 (of_z w64 c.args.bound)) in
     let r : ℕ = nat_abs (to_z w64 (of_z w64 c.in-Some.next)) in
-    let is : IsFound c.args.items.now k c.levels.base c.in-Some.next r =
-    found c.args.items.now c.args.bound c.in-Some.next c.levels.base c.ranges.bound
-    c.levels.invariant.base_most (sym c.in-Some.is ∙ c.radix.ensures) in
     let small : k < 2 ^ 63 = number-small c.args.bound c.ranges.bound in
     let grows : (c.levels.base < c.levels.base * r) × (c.levels.base * r ≤ k) =
-    base-grows k c.levels.base r c.levels.invariant.base_least is.low is.high is.most in
+    grows (goal.at.overflow_mul-base c).In-Some in
     let fits : c.levels.base * r < 2 ^ 64 = omega arith in
     search (rules, fits)
 
@@ -40,22 +47,17 @@ pub levels-smaller : goal.levels-smaller
 levels-smaller c =
     let k : ℕ = number_of (to_z w64 (of_z w64 c.args.bound)) in
     let r : ℕ = nat_abs (to_z w64 (of_z w64 c.in-Some.next)) in
-    let is : IsFound c.args.items.now k c.levels.base c.in-Some.next r =
-    found c.args.items.now c.args.bound c.in-Some.next c.levels.base c.ranges.bound
-    c.levels.invariant.base_most (sym c.in-Some.is ∙ c.radix.ensures) in
     let grows : (c.levels.base < c.levels.base * r) × (c.levels.base * r ≤ k) =
-    base-grows k c.levels.base r c.levels.invariant.base_least is.low is.high is.most in
+    grows (goal.at.levels-smaller c).In-Some in
     omega arith
 
 pub levels-preserved : goal.levels-preserved
 levels-preserved c =
     let k : ℕ = number_of (to_z w64 (of_z w64 c.args.bound)) in
     let r : ℕ = nat_abs (to_z w64 (of_z w64 c.in-Some.next)) in
-    let is : IsFound c.args.items.now k c.levels.base c.in-Some.next r =
-    found c.args.items.now c.args.bound c.in-Some.next c.levels.base c.ranges.bound
-    c.levels.invariant.base_most (sym c.in-Some.is ∙ c.radix.ensures) in
+    let is : IsFound c.args.items.now k c.levels.base c.in-Some.next r = is_found (goal.at.levels-preserved c).In-Some in
     let grows : (c.levels.base < c.levels.base * r) × (c.levels.base * r ≤ k) =
-    base-grows k c.levels.base r c.levels.invariant.base_least is.low is.high is.most in
+    grows (goal.at.levels-preserved c).In-Some in
     let o : 0 < r = omega (arith, is.low) in
     let t : c.tare_of-tare.result < r =
     subst (λ t. t < r) (sym c.tare_of-tare.ensures) (tare-below c.levels.top r o) in

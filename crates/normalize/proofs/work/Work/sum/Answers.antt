@@ -9,6 +9,7 @@ use Rattle.normalize.specs.private.Inside.{stage_of}
 use Rattle.normalize.specs.private.Stage.{Spends, HasRoomFor, atoms_of, sum_room}
 use Rattle.normalize.proofs.NetLaws.{sum-weights, sum-short, sum-back, sum-there, block-room, block-known, block-stage, block-spends, body-answers, sum-adds}
 use Rattle.normalize.proofs.work.Work.sum.Goals as goal
+use Rattle.normalize.proofs.work.Work.sum.Goals.{In_ok-reach}
 
 pub sum_at_least-requires-clause-weights : goal.sum_at_least-requires-clause-weights
 sum_at_least-requires-clause-weights c =
@@ -39,15 +40,19 @@ sum_at_least-requires-clause-room c =
     (sum_measure c.in-Sum.bound c.in-Sum.items)
     (subst (λ body. HasRoomFor (sum_room body) c.args.self) c.in-Sum.is c.requires.room))
 
-pub with_block-requires : goal.with_block-requires
-with_block-requires c =
-    let r : Reaches c.in-Sum.bound c.in-Sum.items c.for_body-net.result c.sum_at_least.new.net
-    c.in_ok-reach.reach =
+reached : (c : In_ok-reach)
+    → Reaches c.in-Sum.bound c.in-Sum.items c.for_body-net.result c.sum_at_least.new.net
+    c.in_ok-reach.reach
+reached c =
     sum-back (atoms_of c.args.self) c.args.body.now c.in-Sum.bound c.in-Sum.items
     c.as_slice.result.now c.in-Sum.is c.requires.fits c.as_slice.ensures
     (λ bound items. Reaches bound items c.for_body-net.result c.sum_at_least.new.net
     c.in_ok-reach.reach)
-    c.in_ok-reach.ensures.reaches in
+    c.in_ok-reach.ensures.reaches
+
+pub with_block-requires : goal.with_block-requires
+with_block-requires c =
+    let r = reached (goal.at.with_block-requires c).In_ok-reach in
     record {
       stage = λ block. block-stage c.args.self (stage_of c.self.inside) c.self.view_is
           c.self.invariant (positives_of_body c.args.body.now) c.for_body-net.result
@@ -57,13 +62,7 @@ with_block-requires c =
 
 pub returns-clause-answers : goal.returns-clause-answers
 returns-clause-answers c =
-    let r : Reaches c.in-Sum.bound c.in-Sum.items c.for_body-net.result c.sum_at_least.new.net
-    c.in_ok-reach.reach =
-    sum-back (atoms_of c.args.self) c.args.body.now c.in-Sum.bound c.in-Sum.items
-    c.as_slice.result.now c.in-Sum.is c.requires.fits c.as_slice.ensures
-    (λ bound items. Reaches bound items c.for_body-net.result c.sum_at_least.new.net
-    c.in_ok-reach.reach)
-    c.in_ok-reach.ensures.reaches in
+    let r = reached (goal.at.returns-clause-answers c).In_ok-reach in
     body-answers c.args.self (stage_of c.self.inside) c.self.view_is c.self.invariant
     (positives_of_body c.args.body.now) c.for_body-net.result c.for_body-net.ensures
     c.sum_at_least.new.net c.in-Sum.bound c.in-Sum.items c.in_ok-reach.reach r
@@ -72,13 +71,7 @@ returns-clause-answers c =
 
 pub returns-clause-spends : goal.returns-clause-spends
 returns-clause-spends c =
-    let r : Reaches c.in-Sum.bound c.in-Sum.items c.for_body-net.result c.sum_at_least.new.net
-    c.in_ok-reach.reach =
-    sum-back (atoms_of c.args.self) c.args.body.now c.in-Sum.bound c.in-Sum.items
-    c.as_slice.result.now c.in-Sum.is c.requires.fits c.as_slice.ensures
-    (λ bound items. Reaches bound items c.for_body-net.result c.sum_at_least.new.net
-    c.in_ok-reach.reach)
-    c.in_ok-reach.ensures.reaches in
+    let r = reached (goal.at.returns-clause-spends c).In_ok-reach in
     let m : ℕ = sum_measure c.in-Sum.bound c.in-Sum.items in
     subst (λ body. Spends (sum_room body) c.args.self c.in_ok-with_block.field-0)
     (sym c.in-Sum.is)
@@ -94,13 +87,7 @@ returns-clause-spends c =
 
 pub returns-clause-adds : goal.returns-clause-adds
 returns-clause-adds c =
-    let r : Reaches c.in-Sum.bound c.in-Sum.items c.for_body-net.result c.sum_at_least.new.net
-    c.in_ok-reach.reach =
-    sum-back (atoms_of c.args.self) c.args.body.now c.in-Sum.bound c.in-Sum.items
-    c.as_slice.result.now c.in-Sum.is c.requires.fits c.as_slice.ensures
-    (λ bound items. Reaches bound items c.for_body-net.result c.sum_at_least.new.net
-    c.in_ok-reach.reach)
-    c.in_ok-reach.ensures.reaches in
+    let r = reached (goal.at.returns-clause-adds c).In_ok-reach in
     sum-adds c.args.self (stage_of c.self.inside) c.self.view_is c.self.invariant
     (positives_of_body c.args.body.now) c.for_body-net.result c.for_body-net.ensures
     c.sum_at_least.new.net c.in-Sum.bound c.in-Sum.items c.in_ok-reach.reach r
