@@ -1,18 +1,16 @@
 -- Small programs with their dependencies, links, cyclic components and measures, by computation.
 use Rattle.std.proofs.Common.{◌≡◌, refl, ℕ, Bool, true, false, List, [], ◌∷◌}
-use Rattle.asp_base.specs.Literal.{Literal, Pos, Neg}
+use Rattle.asp_base.specs.Literal.{Pos, Neg}
 use Rattle.ground_program.specs.Dependencies.{depends}
 use Rattle.ground_program.specs.Tangle.{all_basic, links, pairs, tangle}
-use Rattle.ground_program.specs.declared.program.Head.TheVariants.{One, Choice}
+use Rattle.ground_program.specs.declared.program.Head.TheVariants.{Choice}
 use Rattle.ground_program.specs.declared.program.Body.TheVariants.{All}
 use Rattle.ground_program.specs.declared.program.Rule.{Rule}
+use Rattle.ground_program.proofs.Rows.{normal}
 use Rattle.components.specs.Components.{number_of}
 use Rattle.components.specs.Divided.{Divided, cyclic_parts, members_of}
 use Rattle.components.specs.private.Adding.{run}
 use Rattle.components.specs.private.Links.{links_of_rules}
-
-abbrev normal : ℕ → List Literal → Rule
-normal a lits = record { head = One a; body = All lits }
 
 -- components of these atoms, whose sums are not looked at
 abbrev divided : List ℕ → List ℕ → ℕ → List Bool → Divided

@@ -15,6 +15,10 @@ pub record Divided : Type 0 where
   pub terms : List ℕ
   pub odd : List ℕ
 
+-- the number of an atom's component, as `components` finds it
+abbrev pub part_of : Divided → ℕ → ℕ
+part_of d a = number_of d.atoms d.numbers a
+
 -- the atoms of a component, ascending
 abbrev pub members_of : ℕ → List ℕ → List ℕ → List ℕ
 members_of i atoms numbers = filter (λ a. number_of atoms numbers a == i) atoms

@@ -20,17 +20,18 @@ use crate::costs::{odd_ones, ones, terms};
 use crate::links::{has_positive, links_of};
 use crate::parts::Parts;
 use asp_base::Memory;
-use graph_parts::{Parts as GraphParts, grouped, parts_among};
+use graph_parts::{Parts as GraphParts, grouped, parts_among, parts_apart};
 use ground_program::{Atoms, Program, Rule};
 use std::alloc::Global;
 
-/// More nodes than this are not numbered.
-const MOST_NODES: usize = 0xffff_ffff;
+/// So many nodes are not numbered, and so many links not put together.
+const TOO_MANY: usize = 0xffff_ffff;
 
 /// The components of a program's positive dependencies: an atom depends on each atom that stands positive in the body
 /// of a rule with it in the head, whatever the kinds of head and body. Their numbers run from 1 on, and a component
 /// depends on lower ones and itself alone. In time linear in the program's size, where the numbers of the atoms lie
-/// close together. `Memory` where there is none left, and where atoms and rules together are 2^32 - 1 or more.
+/// close together. `Memory` where there is none left, and where atoms and rules together, or the links, are 2^32 - 1 or
+/// more.
 pub fn components(alloc: Global, program: &Program) -> Result<Parts, Memory>
     ensures parts { IfOk result (λ parts. ArePartsOf program.now parts) }
     ensures cyclic { IfOk result (λ parts. AreCyclicComponents program.now.rules (cyclic_parts parts)) }
@@ -44,7 +45,7 @@ fn found(alloc: Global, program: &Program) -> Result<Parts, Memory>
 {
     program.known();
     let rules = program.rules.as_slice();
-    if rules.len() >= MOST_NODES - program.atoms.len() {
+    if rules.len() >= TOO_MANY - program.atoms.len() {
         return Err(Memory);
     }
     if !has_positive(rules) {
@@ -52,6 +53,9 @@ fn found(alloc: Global, program: &Program) -> Result<Parts, Memory>
         return put_together(alloc, &program.atoms, parts, Sums::none(alloc));
     }
     let edges = links_of(alloc, &program.atoms, program.atoms.len() as u32, rules)?;
+    if edges.len() >= TOO_MANY {
+        return Err(Memory);
+    }
     let parts = places(alloc, program, edges.as_slice())?;
     let sums = sums(alloc, &program.atoms, edges.as_slice(), rules, &parts)?;
     put_together(alloc, &program.atoms, parts, sums)
@@ -66,14 +70,14 @@ fn alone(alloc: Global, program: &Program) -> Result<GraphParts, Memory>
     ensures cyclic { IfOk result (λ parts. IsNoneCyclic parts) }
 {
     program.known();
-    let nodes = program.atoms.len() as u32;
-    parts_among(alloc, nodes, nodes, &[])
+    parts_apart(alloc, program.atoms.len() as u32)
 }
 
 /// The components of the atoms' places, by the links of the program.
 fn places(alloc: Global, program: &Program, edges: &[(u32, u32)]) -> Result<GraphParts, Memory>
     requires edges { edges.now ≡ links_of_rules program.now.atoms (length program.now.atoms) program.now.rules }
     requires few { length program.now.atoms + length program.now.rules < 2 ^ 32 - 1 }
+    requires links { length edges.now < 2 ^ 32 }
     ensures sized { IfOk result (λ parts. length parts.numbers ≡ length program.now.atoms) }
     ensures most { IfOk result (λ parts. EachIndex parts.numbers (λ u. slice_index parts.numbers u ≤ parts.count)) }
     ensures components { IfOk result (λ parts. AreComponents program.now parts.numbers parts.count parts.cyclic) }

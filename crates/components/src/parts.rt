@@ -79,7 +79,7 @@ impl Parts {
     {
         let number = i as usize;
         let starts = self.groups.starts.as_slice();
-        &self.groups.values.as_slice()[starts[number]..starts[number + 1]]
+        &self.groups.values.as_slice()[starts[number] as usize..starts[number + 1] as usize]
     }
 
     /// Whether a component is cyclic: one of its atoms, and so each, depends on itself by way of others or at once.

@@ -1,27 +1,16 @@
--- What the members of a part are, and which parts are cyclic.
+-- Which parts are cyclic.
 use Rattle.std.proofs.Common.{◌≡◌, ◌≢◌, ℕ, suc, ◌+◌, ◌<◌, ◌≤◌, Bool, true, false, ◌==◌, List, [], ◌∷◌, ◌++◌, ◌-◌, length, set, take, drop, get_or, arith, refl, sym, ◌∙◌, ap, subst, ⊎_elim, eq-eqb, eqb-true}
-use Rattle.std.specs.List.{filter, list_any, range_with_len, slice_range}
+use Rattle.std.specs.List.{list_any}
 use Rattle.std.proofs.lemmas.Bool.{cases_eq, cases_lt, or_cases, true≢false}
-use Rattle.std.proofs.lemmas.List.{map-id, get_or-set_same, get_or-set_other, get_or_past}
+use Rattle.std.proofs.lemmas.List.{get_or-set_same, get_or-set_other, get_or_past}
 use Rattle.std.proofs.lemmas.List.Folds.{list_any_at}
 use Rattle.asp_base.specs.Walks.{IsWalk, Reaches}
-use Rattle.graph_parts.specs.Divided.{AreCycles, is_cyclic_at, members_of}
-use Rattle.graph_parts.specs.private.Kept.{numbered}
+use Rattle.graph_parts.specs.Divided.{AreCycles, is_cyclic_at}
 use Rattle.graph_parts.specs.private.Marks.{AreMarked, steps_within}
 use Rattle.graph_parts.specs.Graph.{leads}
-use Rattle.graph_parts.specs.Groups.{AreGroups}
 use Rattle.graph_parts.specs.Parts.{AreParts, Together}
-use Rattle.graph_parts.proofs.KeyLaws.{picked}
 use Rattle.graph_parts.proofs.Ways.{found-at, walk-falls}
 use Rattle.graph_cycles.proofs.WalkLaws.{walk-join}
-
--- ---- the members
-
-pub members-are : (numbers : List ℕ) (count : ℕ) (starts nodes : List ℕ) → AreGroups (numbered numbers) (count + 1) starts nodes → (number : ℕ) → number ≤ count → slice_range nodes (get_or starts number 0) (get_or starts (number + 1) 0) ≡ members_of number numbers
-members-are numbers count starts nodes groups number within =
-    groups.each number (omega arith)
-    ∙ picked (λ u. get_or numbers u 0) (λ u. u) (λ u. get_or numbers u 0) number (length numbers) 0 (λ j low high. refl)
-    ∙ ap (filter (λ u. get_or numbers u 0 == number)) (map-id (range_with_len 0 (length numbers)))
 
 -- ---- the marks
 

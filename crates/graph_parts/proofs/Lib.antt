@@ -1,3 +1,4 @@
+pub mod ApartLaws
 pub mod Closing
 pub mod CycleLaws
 pub mod DividedLaws

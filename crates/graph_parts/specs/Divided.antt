@@ -1,6 +1,5 @@
 -- A graph that is divided into its parts, as contracts see it.
-use Rattle.std.specs.Prelude.{◌≡◌, ℕ, ◌<◌, ◌↔◌, Bool, true, false, ◌==◌, List, length, slice_index, slice_index_or}
-use Rattle.std.specs.List.{filter, range_with_len}
+use Rattle.std.specs.Prelude.{◌≡◌, ℕ, ◌<◌, ◌↔◌, Bool, true, false, List, length, slice_index, slice_index_or}
 use Rattle.asp_base.specs.Walks.{Reaches}
 
 -- the number of each node's part, how many parts there are, and which of them are cyclic
@@ -8,11 +7,6 @@ pub record Divided : Type 0 where
   pub numbers : List ℕ
   pub count : ℕ
   pub cyclic : List Bool
-
--- the nodes with a number, ascending
-abbrev pub members_of : ℕ → List ℕ → List ℕ
-members_of number numbers =
-    filter (λ u. slice_index numbers u == number) (range_with_len 0 (length numbers))
 
 -- whether the part with a number is cyclic
 abbrev pub is_cyclic_at : List Bool → ℕ → Bool

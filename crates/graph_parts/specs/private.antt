@@ -2,7 +2,6 @@
 -- names them.
 pub mod Filling
 pub mod Inside
-pub mod Kept
 pub mod Marks
 pub mod Ranks
 pub mod Searching

@@ -7,7 +7,7 @@ ghost use Rattle.graph_parts.specs.Graph.{AreEdges, has_edge};
 ghost use Rattle.graph_parts.specs.Parts.{ArePartsAmong};
 ghost use Rattle.graph_parts.specs.private.Ranks.{AreMoved, AreRanks, AreUsed, SameBySame};
 
-use crate::dividing::{parts_of, put_together};
+use crate::dividing::parts_of;
 use crate::groups::added_up;
 use crate::numbering::Numbers;
 use crate::parts::Parts;
@@ -15,7 +15,8 @@ use asp_base::Memory;
 use std::alloc::Global;
 
 /// Divides the first nodes of the graph with these edges into its parts; they may reach each other by way of the other
-/// nodes. What a node reaches never has a higher number. In time linear in nodes and edges.
+/// nodes. What a node reaches never has a higher number. In time linear in nodes and edges. `Memory` where there is
+/// none left.
 pub fn parts_among(
     alloc: Global,
     nodes: u32,
@@ -23,6 +24,7 @@ pub fn parts_among(
     edges: &[(u32, u32)],
 ) -> Result<Parts, Memory>
     requires edges { AreEdges nodes edges.now }
+    requires few { length edges.now < 2 ^ 32 }
     requires among { among ≤ nodes }
     ensures sized { IfOk result (λ parts. length parts.numbers ≡ among) }
     ensures parts { IfOk result (λ parts. ArePartsAmong (has_edge edges.now) parts.numbers parts.count) }
@@ -32,7 +34,7 @@ pub fn parts_among(
     let numbers = &all.numbers()[..among as usize];
     let ranks = ranks(alloc, numbers, all.count())?;
     let cyclic = moved(alloc, &all, numbers, ranks.numbers.as_slice(), ranks.count)?;
-    put_together(alloc, ranks.numbers, ranks.count, cyclic)
+    Ok(Parts::new(ranks.numbers, ranks.count, cyclic))
 }
 
 /// Numbers that say which of these are the same and which are higher, from 1 on without gaps.
@@ -44,17 +46,17 @@ fn ranks(alloc: Global, numbers: &[u32], count: u32) -> Result<Numbers, Memory>
     let ranked = ranked(alloc, numbers, ranks.as_slice())?;
     Ok(Numbers {
         numbers: ranked,
-        count: ranks[count as usize] as u32,
+        count: ranks[count as usize],
     })
 }
 
 /// A one at each of these numbers.
-fn used_numbers(alloc: Global, numbers: &[u32], count: u32) -> Result<Vec<usize>, Memory>
+fn used_numbers(alloc: Global, numbers: &[u32], count: u32) -> Result<Vec<u32>, Memory>
     requires { EachIndex numbers.now (λ u. slice_index numbers.now u ≤ count) }
     ensures sized { IfOk result (λ used. length used.items ≡ count + 1) }
     ensures used { IfOk result (λ used. AreUsed numbers.now used.items) }
 {
-    let mut used = vec![in alloc; 0usize; count as usize + 1]?;
+    let mut used = vec![in alloc; 0u32; count as usize + 1]?;
     for number in numbers {
         used[*number as usize] = 1;
     }
@@ -62,14 +64,13 @@ fn used_numbers(alloc: Global, numbers: &[u32], count: u32) -> Result<Vec<usize>
 }
 
 /// The rank of each number.
-fn ranked(alloc: Global, numbers: &[u32], ranks: &[usize]) -> Result<Vec<u32>, Memory>
-    requires within { EachIndex numbers.now (λ u. slice_index numbers.now u < length ranks.now) }
-    requires few { EachIndex ranks.now (λ k. slice_index ranks.now k < 2 ^ 32) }
+fn ranked(alloc: Global, numbers: &[u32], ranks: &[u32]) -> Result<Vec<u32>, Memory>
+    requires { EachIndex numbers.now (λ u. slice_index numbers.now u < length ranks.now) }
     ensures { IfOk result (λ ranked. ranked.items ≡ map (λ i. slice_index ranks.now i) numbers.now) }
 {
     let mut ranked = Vec::new(alloc);
     for number in numbers {
-        ranked.push(ranks[*number as usize] as u32)?;
+        ranked.push(ranks[*number as usize])?;
     }
     Ok(ranked)
 }

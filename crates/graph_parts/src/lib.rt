@@ -3,6 +3,7 @@
 #![tactic(auto)]
 
 mod among;
+mod apart;
 mod dividing;
 mod groups;
 pub mod laws;
@@ -11,6 +12,7 @@ mod parts;
 mod search;
 
 pub use among::parts_among;
+pub use apart::parts_apart;
 pub use dividing::{divide, parts_of};
 pub use groups::{Groups, StartList, ValueList, grouped};
 pub use parts::Parts;

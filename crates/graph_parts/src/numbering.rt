@@ -18,7 +18,7 @@ pub(crate) struct Numbers {
 /// Numbers the parts of a graph, from 1 on; a step never leads to a higher number.
 pub(crate) fn number_parts(
     alloc: Global,
-    starts: &[usize],
+    starts: &[u32],
     targets: &[u32],
 ) -> Result<Numbers, Memory>
     requires graph { IsGraph starts.now targets.now }

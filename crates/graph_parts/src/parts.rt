@@ -1,9 +1,8 @@
-//! The parts of a graph, as a type: the number of each node's part, the nodes of each part, and which parts are cyclic.
+//! The parts of a graph, as a type: the number of each node's part, and which parts are cyclic.
 
-ghost use Rattle.std.specs.Prelude.{◌≡◌, ◌+◌, ◌<◌, ◌≤◌, ◌^◌, length, slice_index, IfOk};
-ghost use Rattle.graph_parts.specs.Divided.{is_cyclic_at, members_of};
+ghost use Rattle.std.specs.Prelude.{◌≡◌, ◌+◌, ◌<◌, ◌≤◌, length, slice_index};
+ghost use Rattle.graph_parts.specs.Divided.{is_cyclic_at};
 
-use crate::groups::Groups;
 use std::marker::Model;
 
 /// The strongly connected components of a graph, the parts for short. Their numbers run from 1 to the count. Contracts
@@ -12,33 +11,29 @@ use std::marker::Model;
 pub struct Parts {
     numbers: Vec<u32>,
     count: u32,
-    groups: Groups,
     cyclic: Vec<bool>,
 }
 
 impl Model for Parts {
     ghost use Rattle.graph_parts.specs.Divided.{Divided};
-    ghost use Rattle.graph_parts.specs.private.Inside.{divided_of, KeepsDivided};
+    ghost use Rattle.graph_parts.specs.private.Inside.{divided_of, HasMarks};
 
     ghost Value = { Divided };
 
     ghost view = { divided_of };
 
-    ghost invariant = { KeepsDivided };
+    ghost invariant = { HasMarks };
 }
 
 impl Parts {
-    ghost use Rattle.graph_parts.specs.private.Kept.{IsDivided};
-
-    /// Parts with these numbers, whose nodes are put together.
-    pub(crate) fn new(numbers: Vec<u32>, count: u32, groups: Groups, cyclic: Vec<bool>) -> Parts
-        requires { IsDivided numbers.items count groups.starts groups.values cyclic.items }
+    /// Parts with these numbers and marks.
+    pub(crate) fn new(numbers: Vec<u32>, count: u32, cyclic: Vec<bool>) -> Parts
+        requires { length cyclic.items ≡ count + 1 }
         ensures { result ≡ record { numbers = numbers.items; count = count; cyclic = cyclic.items } }
     {
         Parts {
             numbers,
             count,
-            groups,
             cyclic,
         }
     }
@@ -70,16 +65,6 @@ impl Parts {
         ensures { result ≡ slice_index self.now.numbers node }
     {
         self.numbers[node as usize]
-    }
-
-    /// The nodes of the part with a number, ascending.
-    pub fn members(&self, number: u32) -> &[u32]
-        requires { number ≤ self.now.count }
-        ensures { result.now ≡ members_of number self.now.numbers }
-    {
-        let number = number as usize;
-        let starts = self.groups.starts.as_slice();
-        &self.groups.values.as_slice()[starts[number]..starts[number + 1]]
     }
 
     /// Whether the part with a number is cyclic.

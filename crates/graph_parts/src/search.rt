@@ -33,7 +33,7 @@ pub(crate) struct Search {
     /// For each node the place in the chain where it was found.
     places: Vec<Option<u32>>,
     /// For each node the step that is looked at next.
-    at: Vec<usize>,
+    at: Vec<u32>,
     /// For each node the number of its part; 0 while that is not closed.
     pub(crate) numbers: Vec<u32>,
     /// The chain.
@@ -48,7 +48,7 @@ pub(crate) struct Search {
 
 impl Search {
     /// No node is found.
-    pub(crate) fn new(alloc: Global, starts: &[usize]) -> Result<Search, Memory>
+    pub(crate) fn new(alloc: Global, starts: &[u32]) -> Result<Search, Memory>
         requires { 0 < length starts.now }
         ensures { IfOk result (λ search. Holds search (replicate (length starts.now - 1) None)
             (replicate (length starts.now - 1) 0) starts.now [] [] [] 0) }
@@ -68,7 +68,7 @@ impl Search {
     /// Finds what a node reaches, and closes the parts of it.
     pub(crate) fn explore(
         &mut self,
-        starts: &[usize],
+        starts: &[u32],
         targets: &[u32],
         node: u32,
     ) -> Result<(), Memory>
@@ -89,7 +89,7 @@ impl Search {
     }
 
     /// Puts a node that was not found into the empty chain, and goes on until the chain is empty again.
-    fn explore_new(&mut self, starts: &[usize], targets: &[u32], node: u32) -> Result<(), Memory>
+    fn explore_new(&mut self, starts: &[u32], targets: &[u32], node: u32) -> Result<(), Memory>
         requires graph { IsGraph starts.now targets.now }
         requires few { length starts.now ≤ 2 ^ 32 }
         requires searching { Searches starts.now targets.now self.old }
@@ -109,7 +109,7 @@ impl Search {
     }
 
     /// One round.
-    fn advance(&mut self, starts: &[usize], targets: &[u32]) -> Result<(), Memory>
+    fn advance(&mut self, starts: &[u32], targets: &[u32]) -> Result<(), Memory>
         requires graph { IsGraph starts.now targets.now }
         requires few { length starts.now ≤ 2 ^ 32 }
         requires searching { Searches starts.now targets.now self.old }
@@ -131,7 +131,7 @@ impl Search {
     }
 
     /// Sees what comes next behind the last bound.
-    fn look(&self, starts: &[usize], targets: &[u32], bound: u32) -> Look
+    fn look(&self, starts: &[u32], targets: &[u32], bound: u32) -> Look
         requires graph { IsGraph starts.now targets.now }
         requires searching { Searches starts.now targets.now self.now }
         ensures { Sees starts.now targets.now self.now bound result }
@@ -149,7 +149,7 @@ impl Search {
         if at >= starts[node as usize + 1] {
             return Look::Spent;
         }
-        self.see(node, targets[at], bound)
+        self.see(node, targets[at as usize], bound)
     }
 
     /// Sees where a step leads.
@@ -195,7 +195,7 @@ impl Search {
     /// Goes on to the next step of a node.
     fn pass(&mut self, node: u32)
         requires node { node < length self.old.at.items }
-        requires at { slice_index self.old.at.items node < usize.MAX }
+        requires at { slice_index self.old.at.items node < u32.MAX }
         ensures { Holds self.new
             self.old.places.items
             self.old.numbers.items

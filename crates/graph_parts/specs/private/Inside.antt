@@ -1,10 +1,10 @@
--- What the fields of parts stand for.
+-- What the fields of parts stand for, and what parts keep: a mark for each number.
+use Rattle.std.specs.Prelude.{◌≡◌, ◌+◌, length}
 use Rattle.graph_parts.specs.Divided.{Divided}
-use Rattle.graph_parts.specs.private.Kept.{IsDivided}
 use Rattle.graph_parts.specs.declared.parts.Parts.TheInside.{Inside}
 
 abbrev pub divided_of : Inside → Divided
 divided_of p = record { numbers = p.numbers.items; count = p.count; cyclic = p.cyclic.items }
 
-abbrev pub KeepsDivided : Inside → Type 0
-KeepsDivided p = IsDivided p.numbers.items p.count p.groups.starts p.groups.values p.cyclic.items
+abbrev pub HasMarks : Inside → Type 0
+HasMarks p = length p.cyclic.items ≡ p.count + 1

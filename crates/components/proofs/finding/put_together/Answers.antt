@@ -1,5 +1,6 @@
--- The numbers are keys below the count and one.
+-- The numbers are keys below the count and one, one for each atom.
 use Rattle.std.proofs.Common.{◌≡◌, ℕ, ◌+◌, ◌<◌, List, ◌∙◌, ap, length, get_or, arith, subst, sym}
+use Rattle.std.proofs.lemmas.List.FromFn.{length-map-range_with_len}
 use Rattle.graph_parts.specs.Groups.{pair_at}
 use Rattle.graph_parts.proofs.KeyLaws.{keys-below}
 use Rattle.components.specs.private.Kept.{numbered}
@@ -12,3 +13,11 @@ grouped-requires-clause-keys c =
     let count = c.count.ensures in
     subst (λ (pairs : List (ℕ × ℕ)). (j : ℕ) → j < length pairs → (pair_at pairs j).0 < c.count.result + 1) (sym are)
     (keys-below (λ j. get_or c.args.parts.numbers j 0) (λ j. get_or c.as_slice.result.now j 0) (length c.as_slice.result.now) (c.count.result + 1) (λ u below. let most = c.requires.most u (omega arith) in omega arith))
+
+pub grouped-requires-clause-few : goal.grouped-requires-clause-few
+grouped-requires-clause-few c =
+    let are : length c.as_slice-2.result.now ≡ length (numbered c.as_slice.result.now c.args.parts.numbers) = ap length (c.as_slice-2.ensures.value ∙ c.in_ok-pairs.ensures) in
+    let long : length (numbered c.as_slice.result.now c.args.parts.numbers) ≡ length c.as_slice.result.now = length-map-range_with_len (λ j. (get_or c.args.parts.numbers j 0, get_or c.as_slice.result.now j 0)) 0 (length c.as_slice.result.now) in
+    let same = ap length c.as_slice.ensures.is in
+    let few = c.requires.few in
+    omega arith

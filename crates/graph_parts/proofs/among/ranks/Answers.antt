@@ -1,5 +1,5 @@
 -- Sums over ones at the used numbers are ranks, and the last sum is their count.
-use Rattle.std.proofs.Common.{◌≡◌, ℕ, ◌<◌, List, length, map, get_or, arith, ap, subst, sym, ◌∙◌}
+use Rattle.std.proofs.Common.{◌≡◌, ℕ, List, map, get_or, arith, ap, subst, sym, ◌∙◌}
 use Rattle.std.proofs.lemmas.List.{get_or_read}
 use Rattle.graph_parts.specs.private.Ranks.{AreRanks, rank_of}
 use Rattle.graph_parts.proofs.RankLaws.{rank-most, rank-whole, ranked-are, ranks-are, used-first}
@@ -14,30 +14,6 @@ added_up-ranks-requires c =
     let whole = rank-whole c.in_ok-used_numbers.field-0.items c.args.count long in
     let fits = c.ranges.count.fits in
     omega arith
-
-pub ranked-requires-clause-few : goal.ranked-requires-clause-few
-ranked-requires-clause-few c =
-    subst (λ (ranks : List ℕ). (i : ℕ) → i < length ranks → get_or ranks i 0 < 4294967296) (sym c.as_slice.ensures.value) (λ i below.
-    let used = c.in_ok-used_numbers.ensures.used in
-    let long = c.in_ok-used_numbers.ensures.sized in
-    let same = c.added_up-ranks.ensures.long in
-    let first = used-first c.args.numbers.now c.in_ok-used_numbers.field-0.items used (λ u below. (c.requires u below).0) in
-    let most = rank-most c.in_ok-used_numbers.field-0.items used.bits first i (omega arith) in
-    let is = c.added_up-ranks.ensures.sums i below in
-    let fits = c.ranges.count.fits in
-    omega arith)
-
-pub overflow_cast-result : goal.overflow_cast-result
-overflow_cast-result c =
-    let used = c.in_ok-used_numbers.ensures.used in
-    let long = c.in_ok-used_numbers.ensures.sized in
-    let same = c.added_up-ranks.ensures.long in
-    let first = used-first c.args.numbers.now c.in_ok-used_numbers.field-0.items used (λ u below. (c.requires u below).0) in
-    let most = rank-most c.in_ok-used_numbers.field-0.items used.bits first c.args.count (omega arith) in
-    let is = c.added_up-ranks.ensures.sums c.args.count (omega arith) in
-    let read : c.index.result.now ≡ get_or c.added_up-ranks.result.items c.args.count 0 = get_or_read c.added_up-ranks.result.items c.args.count c.index.result.now (omega arith) c.index.ensures 0 in
-    let fits = c.ranges.count.fits in
-    record { fits = omega arith }
 
 pub returns : goal.returns
 returns c =

@@ -1,6 +1,5 @@
 -- The marks of the cyclic parts are right for the parts that are put together.
 use Rattle.std.proofs.Common.{ℕ, List, length, subst, sym}
-use Rattle.std.proofs.lemmas.Result.{IfOk-weaker}
 use Rattle.graph_parts.specs.Divided.{AreCycles, Divided}
 use Rattle.graph_parts.specs.private.Marks.{AreMarked}
 use Rattle.graph_parts.specs.Graph.{leads}
@@ -9,6 +8,6 @@ use Rattle.graph_parts.proofs.dividing.divide.Goals as goal
 
 pub returns-clause-cycles : goal.returns-clause-cycles
 returns-clause-cycles c =
-    IfOk-weaker c.put_together.result _ _ (λ parts is. subst (λ (d : Divided). AreCycles (leads c.args.starts.now c.args.targets.now) d.numbers d.cyclic) (sym is)
+    subst (λ (d : Divided). AreCycles (leads c.args.starts.now c.args.targets.now) d.numbers d.cyclic) (sym c.new.ensures)
     (cycles-are c.args.starts.now c.args.targets.now c.in_ok-found.found.numbers.items c.in_ok-found.found.count c.in_ok-found.ensures.parts c.in_ok-cyclic.cyclic.items
-    (subst (λ (numbers : List ℕ). AreMarked c.args.starts.now c.args.targets.now numbers (length numbers) c.in_ok-cyclic.cyclic.items) c.as_slice.ensures.value c.in_ok-cyclic.ensures.marked))) c.put_together.ensures
+    (subst (λ (numbers : List ℕ). AreMarked c.args.starts.now c.args.targets.now numbers (length numbers) c.in_ok-cyclic.cyclic.items) c.as_slice.ensures.value c.in_ok-cyclic.ensures.marked))
