@@ -107,7 +107,7 @@ spread true true z = refl
 spread true false z = refl
 spread false y z = refl
 
-at_least : (x : Bool) → true ≡ (not x || true)
+pub at_least : (x : Bool) → true ≡ (not x || true)
 at_least true = refl
 at_least false = refl
 

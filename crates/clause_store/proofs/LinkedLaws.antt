@@ -5,14 +5,11 @@ use Rattle.std.specs.List.{filter}
 use Rattle.std.specs.Ordering.{int_eq}
 use Rattle.std.proofs.lemmas.Bool.{and_right}
 use Rattle.asp_base.specs.Sets.{Set}
+use Rattle.asp_base.proofs.Bools.{and_true}
 use Rattle.graph_cycles.specs.Cycle.{leads}
 use Rattle.clause_store.specs.Models.{is_true, linked}
 use Rattle.clause_store.specs.declared.formula.LitEdge.{LitEdge}
 use Rattle.clause_store.specs.private.Linking.{ends_of}
-
-and-true : (b : Bool) → (b && true) ≡ b
-and-true true = refl
-and-true false = refl
 
 leads-linked : (edges : List LitEdge) (A : Set) (u v : ℤ) → leads (ends_of edges A) u v ≡ linked edges A u v
 leads-linked [] A u v = refl
@@ -23,7 +20,7 @@ leads-linked (edge ∷ edges) A u v =
         leads (map (λ (e : LitEdge). (e.from, e.to)) (cond b (edge ∷ filter (λ e. is_true e.lit A) edges) (filter (λ e. is_true e.lit A) edges))) u v
         ≡ ((int_eq edge.from u && (int_eq edge.to v && is_true edge.lit A)) || leads (ends_of edges A) u v)
     go true is = ap (λ b. b || leads (ends_of edges A) u v)
-        (ap (λ b. int_eq edge.from u && b) (sym (ap (λ b. int_eq edge.to v && b) is ∙ and-true (int_eq edge.to v))))
+        (ap (λ b. int_eq edge.from u && b) (sym (ap (λ b. int_eq edge.to v && b) is ∙ and_true (int_eq edge.to v))))
     go false is = ap (λ b. b || leads (ends_of edges A) u v)
         (sym (and_right (int_eq edge.from u) (int_eq edge.to v && is_true edge.lit A) (and_right (int_eq edge.to v) (is_true edge.lit A) is)))
 

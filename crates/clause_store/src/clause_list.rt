@@ -7,6 +7,9 @@ use asp_base::{Lit, Memory, VecList};
 use std::alloc::Global;
 use std::marker::Model;
 
+/// So many literals the clauses of a list have at most, so that an end takes four bytes.
+const MOST_LITERALS: usize = 0xffff_ffff;
+
 /// Literals, one of which is to be true.
 pub type Clause = VecList<Lit>;
 
@@ -14,7 +17,7 @@ pub type Clause = VecList<Lit>;
 #[derive(Drop)]
 pub struct ClauseList {
     lits: Vec<Lit>,
-    ends: Vec<usize>,
+    ends: Vec<u32>,
 }
 
 impl Model for ClauseList {
@@ -30,21 +33,21 @@ impl Model for ClauseList {
 }
 
 /// Where the part at an index begins.
-fn start_of(ends: &[usize], i: usize) -> usize
+fn start_of(ends: &[u32], i: usize) -> usize
     requires { i ≤ length ends.now }
     ensures { result ≡ start_at 0 ends.now i }
 {
-    if i == 0 { 0 } else { ends[i - 1] }
+    if i == 0 { 0 } else { ends[i - 1] as usize }
 }
 
 /// The part at an index.
-fn part<'a>(lits: &'a [Lit], ends: &[usize], i: usize) -> &'a [Lit]
+fn part<'a>(lits: &'a [Lit], ends: &[u32], i: usize) -> &'a [Lit]
     requires index { i < length ends.now }
     requires cut { AreEnds 0 ends.now (length lits.now) }
     ensures { result.now ≡ slice_range lits.now (start_at 0 ends.now i) (slice_index_or ends.now i 0) }
 {
     let start = start_of(ends, i);
-    let end = ends[i];
+    let end = ends[i] as usize;
     prove!(start <= end);
     prove!(end <= lits.len());
     &lits[start..end]
@@ -60,14 +63,19 @@ impl ClauseList {
         }
     }
 
-    /// Adds a clause behind the others. After `Memory` the list is unchanged.
+    /// Adds a clause behind the others. After `Memory` the list is unchanged; so it is where all clauses together would
+    /// have 2^32 literals or more.
     pub fn push(&mut self, lits: &[Lit]) -> Result<(), Memory>
         ensures ok { OnOk result (self.new ≡ self.old ++ lits.now ∷ []) }
         ensures err { OnErr result (self.new ≡ self.old) }
     {
+        let end = self.lits.len() + lits.len();
+        if end > MOST_LITERALS {
+            return Err(Memory);
+        }
         self.ends.reserve(1)?;
         self.lits.extend_from_slice(lits)?;
-        self.ends.push_reserved(self.lits.len());
+        self.ends.push_reserved(end as u32);
         Ok(())
     }
 
@@ -79,6 +87,18 @@ impl ClauseList {
             self.lits.truncate(start_of(self.ends.as_slice(), n));
             self.ends.truncate(n);
         }
+    }
+
+    /// Answers what came of a pushing behind the first n clauses, and keeps these alone where it failed.
+    pub(crate) fn roll_back(&mut self, n: usize, pushed: Result<(), Memory>) -> Result<(), Memory>
+        ensures same { result ≡ pushed }
+        ensures ok { OnOk result (self.new ≡ self.old) }
+        ensures err { OnErr result (self.new ≡ take n self.old) }
+    {
+        if pushed.is_err() {
+            self.truncate(n);
+        }
+        pushed
     }
 
     /// The allocator that the list takes its memory from.

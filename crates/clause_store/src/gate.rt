@@ -7,7 +7,7 @@ use crate::clause_list::ClauseList;
 use asp_base::{Lit, Memory};
 use gate_tables::{Table, emit};
 
-/// Adds the clauses of a table. After `Memory` the list is unchanged.
+/// Adds the clauses of a table. After `Memory` some of them may stand behind the old ones.
 pub(crate) fn push_gate<const K: usize, const C: usize>(
     hard: &mut ClauseList,
     table: &Table<K, C>,
@@ -15,24 +15,6 @@ pub(crate) fn push_gate<const K: usize, const C: usize>(
     output: Lit,
 ) -> Result<(), Memory>
     ensures ok { OnOk result (hard.new ≡ hard.old ++ table_clauses table.now inputs.now output) }
-    ensures err { OnErr result (hard.new ≡ hard.old) }
-{
-    let count = hard.len();
-    let pushed = push_rows(hard, table, inputs, output);
-    if pushed.is_err() {
-        hard.truncate(count);
-    }
-    pushed
-}
-
-fn push_rows<const K: usize, const C: usize>(
-    hard: &mut ClauseList,
-    table: &Table<K, C>,
-    inputs: &[Lit; K],
-    output: Lit,
-) -> Result<(), Memory>
-    ensures ok { OnOk result (hard.new ≡ hard.old ++ table_clauses table.now inputs.now output) }
-    // Some of the clauses may stand behind the old ones.
     ensures err { OnErr result (take (length hard.old) hard.new ≡ hard.old) }
 {
     emit!(hard, table, inputs, output);

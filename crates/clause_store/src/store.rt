@@ -138,7 +138,9 @@ impl Store {
     {
         table.known();
         let output = Lit::positive(self.vars + 1);
-        push_gate(&mut self.hard, table, &inputs, output)?;
+        let count = self.hard.len();
+        let pushed = push_gate(&mut self.hard, table, &inputs, output);
+        self.hard.roll_back(count, pushed)?;
         self.vars += 1;
         Ok(output)
     }
@@ -201,17 +203,12 @@ impl Store {
     {
         let output = self.vars + 1;
         let count = self.hard.len();
-        push_conjunction(self.alloc, &mut self.hard, output, lits)?;
-        match self.known.insert(self.alloc, lits, output) {
-            Ok(()) => {
-                self.vars = output;
-                Ok(Lit::positive(output))
-            }
-            Err(Memory) => {
-                self.hard.truncate(count);
-                Err(Memory)
-            }
-        }
+        let pushed = push_conjunction(self.alloc, &mut self.hard, output, lits);
+        self.hard.roll_back(count, pushed)?;
+        let noted = self.known.insert(self.alloc, lits, output);
+        self.hard.roll_back(count, noted)?;
+        self.vars = output;
+        Ok(Lit::positive(output))
     }
 
     /// The formula, with this top weight.

@@ -28,7 +28,8 @@ use Rattle.clause_store.specs.Facts.{IsOver}
 use Rattle.clause_store.specs.Models.{is_true, all_true, clause_true, clauses_true, IsAssignment, IsModel, linked}
 use Rattle.clause_store.specs.Stored.{Stored, inputs_only, conjunction, after_conjunction}
 use Rattle.clause_store.proofs.GateLaws.{agree, agree-same, same-agree, clauses_true-flat_map, clause_true-negations, clauses_true-front, clauses_true-back, clauses_true-both, literals-up, IsOver-up, IsSound, Extends-same, Extends-compose, Conjunction, conjunction-is}
-use Rattle.completion.specs.Completion.{atoms_at, literals_of, inputs_of, body_literal, after_body, after_head, head_literal, after_rules, literals_of_rules, Support, with_support, supports_of, is_empty, is_sure, literal_if, bodies_of, each_once, defined_by, atom_clauses, headless_clause, headless_clauses, required_clauses, atoms_only, with_bodies, body_literals, support_clauses, completed, completion}
+use Rattle.completion.specs.Completion.{atoms_at, inputs_of, body_literal, after_body, after_head, head_literal, after_rules, literals_of_rules, Support, with_support, supports_of, is_empty, is_sure, literal_if, bodies_of, each_once, defined_by, atom_clauses, headless_clause, headless_clauses, required_clauses, atoms_only, with_bodies, body_literals, support_clauses, completed, completion}
+use Rattle.ground_program.specs.Normal.{literals_of}
 use Rattle.ground_program.specs.Occurrences.{over_variables}
 use Rattle.completion.specs.Supported.{HasSupported, DeterminedByAtoms, ExtendsOnce, HasBodyLiterals, SaysSupported}
 use Rattle.completion.proofs.Places.{place-onto, inputs_from, inputs_from-over, inputs_from-place, all-over, is_true-over, all_true-over}
@@ -95,7 +96,7 @@ after_rules-done atoms (rule ∷ rules) s f r =
 
 -- ---- what the literals of the bodies say
 
-holds-inputs : (atoms : List ℕ) (body : Body) (A : Set) → IsNormalBody body → all_true (map (over_variables atoms) (literals_of body)) A ≡ holds body (atoms_at atoms A) (atoms_at atoms A)
+pub holds-inputs : (atoms : List ℕ) (body : Body) (A : Set) → IsNormalBody body → all_true (map (over_variables atoms) (literals_of body)) A ≡ holds body (atoms_at atoms A) (atoms_at atoms A)
 holds-inputs atoms (All lits) A n = all_true-over atoms lits A
 holds-inputs atoms (Sum bound items) A n = absurd n
 

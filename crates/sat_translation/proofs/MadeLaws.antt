@@ -1,9 +1,8 @@
 -- What stands for the normal program stands for the given one, and is as small as its room allows.
-use Rattle.std.proofs.Common.{◌≡◌, refl, sym, ◌∙◌, ap, subst, ℕ, ◌+◌, ◌*◌, ◌≤◌, ◌<◌, ◌^◌, [], ◌∷◌, ◌++◌, map, length, mul-add, arith}
-use Rattle.std.proofs.lemmas.Bool.{true≢false}
+use Rattle.std.proofs.Common.{◌≡◌, refl, sym, ◌∙◌, ap, subst, ℕ, ◌+◌, ◌*◌, ◌≤◌, ◌<◌, ◌^◌, [], ◌++◌, map, length, mul-add, arith}
 use Rattle.std.proofs.Math.Nat.{mul_comm}
 use Rattle.std.proofs.lemmas.Nat.{mul-le}
-use Rattle.asp_base.specs.Sets.{Set, members, Within}
+use Rattle.asp_base.specs.Sets.{members, Within}
 use Rattle.asp_base.specs.Walks.{Acyclic, Reaches}
 use Rattle.ground_program.specs.Dependencies.{depends}
 use Rattle.ground_program.specs.Digits.{digits}
@@ -14,14 +13,14 @@ use Rattle.ground_program.specs.Room.{room}
 use Rattle.ground_program.specs.Size.{size}
 use Rattle.ground_program.specs.Stable.{joined, Founded}
 use Rattle.ground_program.proofs.DigitLaws.{digits-mono}
+use Rattle.ground_program.proofs.Negative.{Acyclic-no_edges}
 use Rattle.clause_store.specs.Clauses.{Clauses}
 use Rattle.clause_store.specs.Stored.{Stored, formula_of_store}
 use Rattle.completion.specs.Completion.{atoms_at, completed}
 use Rattle.completion.proofs.CompletionLaws.{completed-edges, completed-soft, completed-has_atoms}
 use Rattle.completion.specs.Supported.{HasStable, IsSmall}
-use Rattle.components.specs.Divided.{Divided, cyclic_numbers}
+use Rattle.components.specs.Divided.{Divided, cyclic_numbers, part_of}
 use Rattle.components.specs.Parts.{ArePartsOf}
-use Rattle.level_ranking.specs.Components.{part_of}
 use Rattle.level_ranking.specs.Encoding.{with_rankings}
 use Rattle.level_ranking.specs.Ranked.{HasFounded, DigitsComeFirst, AddsFew}
 use Rattle.normalize.specs.Kept.{SameRest}
@@ -70,10 +69,6 @@ module _ (P : Ground) (d : Divided) (old new : Stored) (before : old ≡ complet
 
 -- ---- founded sets without edges are stable models
 
-no_edges-acyclic : (M : Set) → Acyclic (joined [] M)
-no_edges-acyclic M node [] walk = true≢false (sym walk)
-no_edges-acyclic M node (next ∷ rest) walk = true≢false (sym walk.0)
-
 ranked-has_stable : (P : Ground) (F : Clauses) → P.edges ≡ [] → IsRanked P F → HasStable P F
 ranked-has_stable P F e r = record {
   stable = λ A m.
@@ -81,7 +76,7 @@ ranked-has_stable P F e r = record {
       record {
         least_is = f.least_is;
         keeps = f.keeps;
-        acyclic = subst (λ edges. Acyclic (joined edges (atoms_at P.atoms A))) (sym e) (no_edges-acyclic (atoms_at P.atoms A));
+        acyclic = subst (λ edges. Acyclic (joined edges (atoms_at P.atoms A))) (sym e) (Acyclic-no_edges (atoms_at P.atoms A));
       };
   one = r.founded.one;
   onto = λ M s. r.founded.onto M (record { least_is = s.least_is; keeps = s.keeps });

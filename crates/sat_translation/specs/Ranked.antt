@@ -8,9 +8,8 @@ use Rattle.ground_program.specs.Ground.{Ground}
 use Rattle.clause_store.specs.Clauses.{Clauses}
 use Rattle.clause_store.specs.Stored.{formula_of_store}
 use Rattle.completion.specs.Completion.{completion}
-use Rattle.components.specs.Divided.{Divided, cyclic_numbers}
+use Rattle.components.specs.Divided.{Divided, cyclic_numbers, part_of}
 use Rattle.components.specs.Parts.{ArePartsOf}
-use Rattle.level_ranking.specs.Components.{part_of}
 use Rattle.level_ranking.specs.Encoding.{with_rankings}
 use Rattle.level_ranking.specs.Ranked.{DigitsComeFirst, HasFounded}
 

@@ -157,8 +157,8 @@ fn add_ranked(alloc: Global, program: &Program, store: &mut Store) -> Result<(),
     ensures size { OnOk result (FitsSize program.now (formula_of_store store.new 1)) }
 {
     program.known();
-    let parts = components(alloc, program)?;
     let bodies = complete(alloc, program, store)?;
+    let parts = components(alloc, program)?;
     rank(alloc, program, &parts, &bodies, store)?;
     store.known();
     Ok(())

@@ -1,54 +1,50 @@
--- What the rules of an atom say of it, for each of the atoms in turn.
-use Rattle.std.specs.Prelude.{ℕ, suc, Bool, true, cond, ◌==◌, ◌||◌, List, [], ◌∷◌, ◌++◌, Option, Some, None}
-use Rattle.asp_base.specs.Literal.{Literal, Pos}
-use Rattle.ground_program.specs.declared.program.Head.{Head}
-use Rattle.ground_program.specs.declared.program.Head.TheVariants.{Nothing, One, Choice}
-use Rattle.clause_store.specs.Stored.{Stored}
-use Rattle.completion.specs.Completion.{Support, is_sure, bodies_of, each_once, defined_by}
+-- The clauses of an atom by the literals of its rules' bodies, those of all atoms in turn, and what
+-- the completion's parts leave in a store.
+use Rattle.std.specs.Prelude.{ℕ, zero, suc, ◌+◌, cond, List, [], ◌∷◌, ◌++◌, map, Option, Some, None, slice_index, slice_index_or, slice_range}
+use Rattle.std.specs.List.{flat_map, list_any}
+use Rattle.asp_base.specs.Literal.{Literal, Pos, negation}
+use Rattle.ground_program.specs.declared.program.Rule.{Rule}
+use Rattle.clause_store.specs.Stored.{Stored, with_clauses}
+use Rattle.completion.specs.Completion.{after_rules, supports_of, is_empty, each_once, atom_clauses, headless_clauses, required_clauses}
 
--- whether a rule has an empty body, and the literals of the other rules' bodies, in order
-pub record Defined : Type 0 where
-  pub sure : Bool
-  pub bodies : List Literal
+-- the clauses that an atom is true just where one of these literals is
+abbrev pub equivalence : Literal → List Literal → List (List Literal)
+equivalence atom bodies =
+    (negation atom ∷ bodies) ∷ map (λ b. atom ∷ negation b ∷ []) bodies
 
--- what the rules of an atom say of it
-abbrev pub defined_of : List Support → ℕ → Defined
-defined_of supports a = record { sure = is_sure a supports; bodies = bodies_of a supports }
+-- the literals that are there
+abbrev pub given : List (Option Literal) → List Literal
+given [] = []
+given (None ∷ bodies) = given bodies
+given (Some l ∷ bodies) = l ∷ given bodies
 
--- with one rule more
-abbrev pub with_body : Option Literal → Defined → Defined
-with_body None d = record d { sure = true }
-with_body (Some l) d = record d { bodies = d.bodies ++ (l ∷ []) }
+-- the clauses of the variable v, whose rules' bodies have these literals, none an empty body
+abbrev pub clauses_by : ℕ → List (Option Literal) → List (List Literal)
+clauses_by v bodies =
+    cond (list_any is_empty bodies) ((Pos v ∷ []) ∷ [])
+    (equivalence (Pos v) (each_once (given bodies)))
 
--- with one rule more of the atom a, where each of the atoms has its definition
-abbrev pub with_body_at : List ℕ → ℕ → Option Literal → List Defined → List Defined
-with_body_at [] a body ds = ds
-with_body_at (x ∷ xs) a body [] = []
-with_body_at (x ∷ xs) a body (d ∷ ds) =
-    cond (a == x) (with_body body d) d ∷ with_body_at xs a body ds
+-- the literals of the bodies of the rules at these places
+abbrev pub bodies_at : List (Option Literal) → List ℕ → List (Option Literal)
+bodies_at literals places = map (λ i. slice_index_or literals i None) places
 
--- with one rule more
-abbrev pub with_rule : List ℕ → Head → Option Literal → List Defined → List Defined
-with_rule atoms Nothing body ds = ds
-with_rule atoms (One a) body ds = with_body_at atoms a body ds
-with_rule atoms (Choice as_) body ds = ds
+-- what stands under the key k
+abbrev pub places_under : List ℕ → List ℕ → ℕ → List ℕ
+places_under starts values k =
+    slice_range values (slice_index starts k) (slice_index starts (k + 1))
 
--- with further rules
-abbrev pub with_supports : List ℕ → List Support → List Defined → List Defined
-with_supports [] supports ds = []
-with_supports (x ∷ xs) supports [] = []
-with_supports (x ∷ xs) supports (d ∷ ds) =
-    record { sure = d.sure || is_sure x supports; bodies = d.bodies ++ bodies_of x supports }
-    ∷ with_supports xs supports ds
+-- the clauses of the variables up to n, the places of whose rules stand under the keys from 0
+abbrev pub clauses_up_to : List ℕ → List ℕ → List (Option Literal) → ℕ → List (List Literal)
+clauses_up_to starts values literals zero = []
+clauses_up_to starts values literals (suc k) =
+    clauses_up_to starts values literals k
+    ++ clauses_by (suc k) (bodies_at literals (places_under starts values k))
 
--- the clauses of a definition of the variable v
-abbrev pub definition_clauses : ℕ → Defined → List (List Literal)
-definition_clauses v d = cond d.sure ((Pos v ∷ []) ∷ []) (defined_by v (each_once d.bodies))
-
--- the clauses of the definitions of the variables from v on
-abbrev pub clauses_from : ℕ → List Defined → List (List Literal)
-clauses_from v [] = []
-clauses_from v (d ∷ ds) = definition_clauses v d ++ clauses_from (suc v) ds
-
-abbrev pub with_clauses : List (List Literal) → Stored → Stored
-with_clauses clauses s = record s { hard = s.hard ++ clauses }
+-- with the literals of the bodies, and then the clauses of atoms, of rules without head, and of
+-- required literals
+abbrev pub after_parts : List ℕ → List Rule → List Literal → Stored → Stored
+after_parts atoms rules required s =
+    with_clauses (required_clauses atoms required)
+    (with_clauses (headless_clauses atoms rules)
+    (with_clauses (flat_map (atom_clauses atoms (supports_of atoms rules s)) atoms)
+    (after_rules atoms rules s)))
