@@ -7,7 +7,7 @@ use Rattle.std.proofs.lemmas.Bool.{and_parts, and_from, or_left, or_right, trueâ
 use Rattle.std.proofs.lemmas.Bool.Decides.{Decides-int_eq}
 use Rattle.std.proofs.lemmas.List.Folds.{list_any-append}
 use Rattle.asp_base.specs.Literal.{all_hold}
-use Rattle.asp_base.specs.Sets.{Set, none, members, cut}
+use Rattle.asp_base.specs.Sets.{Set, none, members, cut, In}
 use Rattle.asp_base.specs.Walks.{Acyclic}
 use Rattle.ground_program.specs.Closed.{Closed}
 use Rattle.ground_program.specs.Facts.{IsProgram, Among, RuleFits, ConditionFits}
@@ -29,7 +29,6 @@ use Rattle.acyc_edges.specs.private.Parts.{AreParts}
 use Rattle.acyc_edges.proofs.Agreeing.{all_hold-agree, holds-agree, costs-agree, names-agree}
 use Rattle.acyc_edges.proofs.Encoded.{StaysRule, HoldsName, name-apart, in-made-kept, step-cases, kept-step, fires-head}
 use Rattle.acyc_edges.proofs.Founding.{Picks, within-least}
-use Rattle.acyc_edges.specs.private.Sources.{In}
 use Rattle.acyc_edges.proofs.Inside.{any-in, in-any, each-in, in-filter, filter-in, none-in, in-none, member-in, in-member, in-map, not-both, false-from}
 use Rattle.acyc_edges.specs.private.Sources.{Cyc, AreNames}
 use Rattle.acyc_edges.proofs.Sources.{rule-counted, counted-rule, in-once, has-is_head, is_head-has, is_head-atom}

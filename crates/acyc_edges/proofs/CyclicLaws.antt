@@ -2,12 +2,11 @@
 use Rattle.std.proofs.Common.{◌≡◌, refl, sym, ◌∙◌, ap, subst, ℕ, zero, suc, ◌+◌, ◌-◌, ◌<◌, ◌≤◌, Bool, true, false, cond, ◌==◌, List, [], ◌∷◌, filter, ⊎_elim, ◌⊎◌, inl, inr, arith}
 use Rattle.std.specs.List.{range_with_len}
 use Rattle.std.proofs.lemmas.Bool.{cond-true, cond-false, or_cases, eqb-true, eq-eqb, true≢false}
-use Rattle.asp_base.specs.Sets.{members}
+use Rattle.asp_base.specs.Sets.{members, In}
 use Rattle.rising_numbers.specs.Rising.{RisesFrom}
 use Rattle.rising_numbers.specs.Rising.{place}
-use Rattle.rising_numbers.proofs.RisingLaws.{RisesFrom-lower}
+use Rattle.rising_numbers.proofs.RisingLaws.{rises-filter}
 use Rattle.acyc_edges.specs.Names.{index_by}
-use Rattle.acyc_edges.specs.private.Sources.{In}
 use Rattle.acyc_edges.proofs.Inside.{in-filter, filter-in, in-member, member-in, false-from, not-both}
 
 in-range : (a k d : ℕ) → d < k → In (a + d) (range_with_len a k)
@@ -25,14 +24,6 @@ member-test p count n low high = go (p n) refl
     go : (b : Bool) → p n ≡ b → members (filter p (range_with_len 1 count)) n ≡ b
     go true e = in-member (filter p (range_with_len 1 count)) n (in-filter p (range_with_len 1 count) n there e)
     go false e = false-from (members (filter p (range_with_len 1 count)) n) (λ t. not-both (p n) ((filter-in p (range_with_len 1 count) n (member-in (filter p (range_with_len 1 count)) n t)).1) e)
-
-pub rises-filter : (p : ℕ → Bool) (low : ℕ) (xs : List ℕ) → RisesFrom low xs → RisesFrom low (filter p xs)
-rises-filter p low [] r = tt
-rises-filter p low (x ∷ xs) r = go (p x) (rises-filter p x xs r.1)
-  where
-    go : (b : Bool) → RisesFrom x (filter p xs) → RisesFrom low (cond b (x ∷ filter p xs) (filter p xs))
-    go true h = (r.0, h)
-    go false h = RisesFrom-lower low x (filter p xs) (let l : low < x = r.0 in omega arith) h
 
 rises-range : (p : ℕ → Bool) (low a k : ℕ) → low < a → RisesFrom low (range_with_len a k)
 rises-range p low a zero h = tt

@@ -5,7 +5,7 @@ use Rattle.std.specs.Ordering.{int_eq}
 use Rattle.std.proofs.lemmas.Bool.{and_parts, and_from, or_cases, true≢false, eqb-true, eq-eqb}
 use Rattle.std.proofs.lemmas.List.Folds.{list_any-append}
 use Rattle.asp_base.specs.Literal.{Pos, all_hold}
-use Rattle.asp_base.specs.Sets.{Set, members}
+use Rattle.asp_base.specs.Sets.{Set, members, In}
 use Rattle.asp_base.specs.Walks.{Acyclic}
 use Rattle.ground_program.specs.Facts.{IsProgram, Among, ConditionFits}
 use Rattle.ground_program.specs.Ground.{Ground}
@@ -19,7 +19,6 @@ use Rattle.acyc_edges.specs.Names.{index_by, atom_of_name}
 use Rattle.ground_program.specs.Normal.{AreNormal}
 use Rattle.acyc_edges.proofs.Agreeing.{all_hold-agree}
 use Rattle.acyc_edges.proofs.Covered.{int_eq-is, int_eq-again}
-use Rattle.acyc_edges.specs.private.Sources.{In}
 use Rattle.acyc_edges.proofs.Inside.{any-in, in-any, all-in, each-in, in-filter, member-in, map-in, flat-in}
 use Rattle.acyc_edges.proofs.NameLaws.{at-index}
 use Rattle.acyc_edges.proofs.Reached as reached

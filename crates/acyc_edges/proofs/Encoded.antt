@@ -3,7 +3,7 @@ use Rattle.std.proofs.Common.{◌≡◌, refl, sym, ◌∙◌, ap, subst, ℕ, B
 use Rattle.std.specs.List.{list_any, flat_map}
 use Rattle.std.proofs.lemmas.Bool.{and_parts, and_from, true≢false, eqb-true, eq-eqb, cases_Bool, not-true}
 use Rattle.asp_base.specs.Literal.{Literal, Pos, Neg, all_hold}
-use Rattle.asp_base.specs.Sets.{Set, members}
+use Rattle.asp_base.specs.Sets.{Set, members, In}
 use Rattle.ground_program.specs.Facts.{IsProgram, Among, HeadFits, RuleFits}
 use Rattle.ground_program.specs.Ground.{Ground}
 use Rattle.ground_program.specs.Stable.{holds, head_has, derives, step, is_headless, Supported}
@@ -12,12 +12,11 @@ use Rattle.ground_program.specs.declared.program.Head.TheVariants.{Nothing, One,
 use Rattle.ground_program.specs.declared.program.Body.{Body}
 use Rattle.ground_program.specs.declared.program.Body.TheVariants.{All, Sum}
 use Rattle.ground_program.specs.declared.program.Rule.{Rule}
-use Rattle.acyc_edges.specs.Encoding.{has_head_in, literals_of, rule_at, is_cyclic, rules_of, head_at, bodies_of, limits_of, rules_of_name, kept_rules, made}
+use Rattle.acyc_edges.specs.Encoding.{has_head_in, rule_at, is_cyclic, rules_of, head_at, bodies_of, limits_of, rules_of_name, kept_rules, made}
 use Rattle.acyc_edges.specs.declared.name.Name.{Name}
 use Rattle.acyc_edges.specs.declared.name.Name.TheVariants.{Atom, Fires}
 use Rattle.acyc_edges.specs.Names.{is_new, atom_of_name}
-use Rattle.ground_program.specs.Normal.{IsNormalHead, IsNormalBody, AreNormal}
-use Rattle.acyc_edges.specs.private.Sources.{In}
+use Rattle.ground_program.specs.Normal.{IsNormalHead, IsNormalBody, AreNormal, literals_of}
 use Rattle.acyc_edges.proofs.Inside.{in-left, in-right, in-append, in-map, map-in, in-flat, flat-in, in-filter, filter-in, any-in, in-any, each-in, not-both}
 use Rattle.acyc_edges.proofs.NameLaws.{old-name, num-new, num-one}
 use Rattle.acyc_edges.specs.private.Sources.{Cyc, AreNames}

@@ -1,7 +1,7 @@
 -- The names of an encoding speak of the program's atoms and rules.
 use Rattle.std.proofs.Common.{◌≡◌, refl, sym, subst, ap₂, ℕ, ◌<◌, ◌≤◌, ◌^◌, true, List, [], ◌∷◌, map, filter, length, inl, inr, arith}
 use Rattle.std.specs.List.{AllByRecursion, sum_by}
-use Rattle.asp_base.specs.Sets.{members}
+use Rattle.asp_base.specs.Sets.{members, In}
 use Rattle.ground_program.specs.Facts.{IsProgram}
 use Rattle.ground_program.specs.Ground.{Ground}
 use Rattle.ground_program.specs.Size.{rule_size, size}
@@ -12,7 +12,7 @@ use Rattle.acyc_edges.specs.declared.name.Name.TheVariants.{Atom, Complement, Fi
 use Rattle.acyc_edges.specs.Encoding.{counted, rule_at, is_head, rules_of, head_at}
 use Rattle.acyc_edges.specs.Names.{is_new, atom_of_name, same_name}
 use Rattle.acyc_edges.specs.private.Numbers.{number_of, numbered}
-use Rattle.acyc_edges.specs.private.Sources.{In, Source, AreNames}
+use Rattle.acyc_edges.specs.private.Sources.{Source, AreNames}
 use Rattle.acyc_edges.specs.private.Tables.{IsOne, HasHead, NameFits}
 use Rattle.acyc_edges.proofs.Inside.{in-any, filter-in, in-each, each-in, in-member, member-in}
 use Rattle.acyc_edges.proofs.NameLaws.{is-same_name}

@@ -6,27 +6,23 @@ use Rattle.std.specs.List.{list_any, list_all}
 use Rattle.std.specs.Cmp.{nat_eq_equiv}
 use Rattle.std.proofs.lemmas.Bool.{and_parts, and_from, eqb-true, eq-eqb, cases_Bool}
 use Rattle.asp_base.specs.Literal.{Literal, Pos, Neg, all_hold}
-use Rattle.asp_base.specs.Sets.{Set, none, Within}
+use Rattle.asp_base.specs.Sets.{Set, none, Within, In}
 use Rattle.asp_base.specs.Walks.{Acyclic}
-use Rattle.ground_program.specs.Closed.{HasWeights, Weighed}
+use Rattle.ground_program.specs.Closed.{HasWeights}
 use Rattle.ground_program.specs.Stable.{holds, head_has, derives, grown}
 use Rattle.ground_program.specs.declared.program.Body.{Body}
 use Rattle.ground_program.specs.declared.program.Body.TheVariants.{All, Sum}
 use Rattle.ground_program.specs.declared.program.Rule.{Rule}
 use Rattle.ground_program.proofs.Least.{grown-closed}
-use Rattle.asp_base.proofs.Each.{each-weaker}
 use Rattle.ground_program.specs.Dependencies.{positives_of_literals, positives_of_body}
 use Rattle.ground_program.specs.Normal.{IsNormalHead, IsNormalBody, AreNormal}
+use Rattle.ground_program.proofs.FactLaws.{normal-weighed}
 use Rattle.acyc_edges.proofs.Cycling.{must-cycle}
-use Rattle.acyc_edges.specs.private.Sources.{In}
 use Rattle.acyc_edges.proofs.Inside.{in-any, each-in, fails-in, all-in, not-both}
 
 pub body-weighed : (body : Body) → IsNormalBody body → HasWeights body
 body-weighed (All lits) h = tt
 body-weighed (Sum bound items) h = absurd h
-
-pub normal-weighed : (rules : List Rule) → AreNormal rules → Weighed rules
-normal-weighed rules n = each-weaker _ _ (λ rule h. body-weighed rule.body h.1) rules n
 
 -- a body that holds has its positive atoms in the set
 literals-positive : (lits : List Literal) (X M : Set) (b : ℕ) → all_hold lits X M ≡ true → In b (positives_of_literals lits) → X b ≡ true

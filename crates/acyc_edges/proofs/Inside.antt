@@ -2,8 +2,7 @@
 use Rattle.std.proofs.Common.{◌≡◌, refl, sym, ◌∙◌, ap, subst, ℕ, Bool, true, false, cond, ◌&&◌, ◌==◌, List, [], ◌∷◌, ◌++◌, map, filter, ⊎_elim, inl, inr, ◌⊎◌}
 use Rattle.std.specs.List.{list_any, list_all, flat_map, AllByRecursion}
 use Rattle.std.proofs.lemmas.Bool.{and_parts, and_from, or_cases, or_left, or_right, or_parts, or_from, true≢false, eqb-true, eq-eqb}
-use Rattle.asp_base.specs.Sets.{members}
-use Rattle.acyc_edges.specs.private.Sources.{In}
+use Rattle.asp_base.specs.Sets.{members, In}
 
 pub in-left : {A : Type 0} (xs ys : List A) (x : A) → In x xs → In x (xs ++ ys)
 in-left [] ys x h = absurd h

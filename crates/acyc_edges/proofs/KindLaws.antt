@@ -1,6 +1,6 @@
 -- What is true of the names of each kind of encoding.
 use Rattle.std.proofs.Common.{◌≡◌, refl, sym, ◌+◌, ◌*◌, ◌≤◌, ◌<◌, ◌^◌, length, filter, arith}
-use Rattle.components.specs.Divided.{Divided, cyclic_numbers, cyclic_parts}
+use Rattle.components.specs.Divided.{Divided, cyclic_numbers, cyclic_parts, part_of}
 use Rattle.components.specs.Parts.{ArePartsOf}
 use Rattle.graph_parts.specs.Divided.{is_cyclic_at}
 use Rattle.ground_program.specs.Facts.{IsProgram}
@@ -9,7 +9,6 @@ use Rattle.ground_program.specs.Normal.{AreNormal}
 use Rattle.ground_program.specs.Size.{size}
 use Rattle.ground_program.specs.Tangle as tangle
 use Rattle.rising_numbers.specs.Rising.{RisesFrom}
-use Rattle.acyc_edges.specs.Components.{part_of}
 use Rattle.acyc_edges.specs.Names.{is_new}
 use Rattle.acyc_edges.specs.declared.kind.Kind.{Kind}
 use Rattle.acyc_edges.specs.declared.kind.Kind.TheVariants.{Plain, Unique}

@@ -6,7 +6,7 @@ use Rattle.std.proofs.lemmas.Bool.{cases_Bool, cond-true, cond-false}
 use Rattle.std.proofs.lemmas.Int.{ints}
 use Rattle.std.proofs.lemmas.List.{length-map}
 use Rattle.asp_base.specs.Literal.{Literal, Pos, Neg, atom_of}
-use Rattle.asp_base.specs.Sets.{members}
+use Rattle.asp_base.specs.Sets.{members, In}
 use Rattle.ground_program.specs.Facts.{IsProgram, IsPriority, Among, IsShort, LiteralsFit, HeadFits, BodyFits, RuleFits, ConditionFits, LevelFits, ShowFits, FitsWeight}
 use Rattle.rising_numbers.specs.Rising.{RisesFrom}
 use Rattle.ground_program.specs.Fresh.{new_atom}
@@ -24,14 +24,13 @@ use Rattle.ground_program.proofs.FreshLaws.{new_atom-most, new_atom-positive}
 use Rattle.asp_base.proofs.Each.{each-weaker}
 use Rattle.rising_numbers.proofs.RisingLaws.{RisesFrom-rising, members-rising}
 use Rattle.tangle_laws.proofs.PartSums.{total}
-use Rattle.acyc_edges.specs.Encoding.{into_rising_nodes, nodes_of, literals_of, rule_at, is_cyclic, rules_of, head_at, inner_at, node_of, node_of_atom, bodies_of, limits_of, edges_of, kept_edges, made, plain, unique, plain_names, unique_names}
+use Rattle.acyc_edges.specs.Encoding.{into_rising_nodes, nodes_of, rule_at, is_cyclic, rules_of, head_at, inner_at, node_of, node_of_atom, bodies_of, limits_of, edges_of, kept_edges, made, plain, unique, plain_names, unique_names}
 use Rattle.acyc_edges.specs.declared.name.Name.{Name}
 use Rattle.acyc_edges.specs.declared.name.Name.TheVariants.{Atom, Complement, Fires, Chosen, Left, Backed, NoLater, Backs}
 use Rattle.acyc_edges.specs.Names.{is_new, index_by, same_name, atom_of_name}
-use Rattle.ground_program.specs.Normal.{IsNormalHead, IsNormalBody, AreNormal}
+use Rattle.ground_program.specs.Normal.{IsNormalHead, IsNormalBody, AreNormal, literals_of}
 use Rattle.acyc_edges.specs.private.Pairs.{pairs}
 use Rattle.acyc_edges.proofs.Encoded.{made-in}
-use Rattle.acyc_edges.specs.private.Sources.{In}
 use Rattle.acyc_edges.proofs.Inside.{in-left, in-right, in-append, in-map, map-in, flat-in, in-filter, filter-in, each-in, in-each, member-in, in-member}
 use Rattle.acyc_edges.proofs.SourceLaws.{plain-are, unique-are}
 use Rattle.acyc_edges.proofs.Reached.{index-rule, index-normal, index-fits}

@@ -1,13 +1,12 @@
 -- Different names have different atoms.
 use Rattle.std.proofs.Common.{◌≡◌, refl, sym, ◌∙◌, ap, ap₂, subst, ℕ, suc, ◌<◌, Bool, true, false, cond, ◌&&◌, ◌==◌, List, [], ◌∷◌, filter, get_or, ⊎_elim, arith}
 use Rattle.std.proofs.lemmas.Bool.{and_parts, and_from, true≢false, eqb-true, eq-eqb, cases_lt, cond-true, cond-false}
-use Rattle.asp_base.specs.Sets.{members}
+use Rattle.asp_base.specs.Sets.{members, In}
 use Rattle.ground_program.specs.Fresh.{new_atom}
 use Rattle.ground_program.proofs.FreshLaws.{new_atom-rise, new_atom-new}
 use Rattle.acyc_edges.specs.declared.name.Name.{Name}
 use Rattle.acyc_edges.specs.declared.name.Name.TheVariants.{Atom, Complement, Fires, Chosen, Left, Backed, NoLater, Backs}
 use Rattle.acyc_edges.specs.Names.{kind_of, first_of_name, second_of_name, same_name, is_new, index_by, atom_of_name}
-use Rattle.acyc_edges.specs.private.Sources.{In}
 use Rattle.acyc_edges.proofs.Inside.{in-filter, not-both}
 
 -- ---- equality of names

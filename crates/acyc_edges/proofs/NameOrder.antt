@@ -7,17 +7,17 @@ use Rattle.ground_program.specs.Facts.{IsProgram}
 use Rattle.rising_numbers.specs.Rising.{RisesFrom}
 use Rattle.ground_program.specs.Fresh.{new_atom, given_by}
 use Rattle.ground_program.specs.Ground.{Ground}
-use Rattle.acyc_edges.specs.Encoding.{once, counted, rule_at, is_head, atoms_in, rules_of, head_at, ends_of, both_names, edge_names, plain_names, unique_names}
+use Rattle.acyc_edges.specs.Encoding.{counted, rule_at, is_head, atoms_in, rules_of, head_at, ends_of, both_names, edge_names, plain_names, unique_names}
 use Rattle.acyc_edges.specs.declared.name.Name.{Name}
 use Rattle.acyc_edges.specs.declared.name.Name.TheVariants.{Atom, Complement, Fires, Chosen, Left, Backed, NoLater, Backs}
 use Rattle.acyc_edges.specs.Names.{kind_of, first_of_name, second_of_name, is_new, index_by, same_name, atom_of_name}
 use Rattle.ground_program.specs.Normal.{AreNormal}
-use Rattle.acyc_edges.specs.private.Sources.{In}
 use Rattle.acyc_edges.proofs.Inside.{in-right, in-append, map-in, flat-in, filter-in}
 use Rattle.acyc_edges.proofs.NameLaws.{same_name-is, is-same_name}
 use Rattle.acyc_edges.proofs.Reached.{index-head}
 use Rattle.acyc_edges.proofs.SizeLaws.{atoms-apart, in-part}
 use Rattle.acyc_edges.proofs.Totals.{Apart, rises-apart, filter-apart}
+use Rattle.asp_base.specs.Sets.{once, In}
 
 -- ---- lists in which nothing stands twice
 

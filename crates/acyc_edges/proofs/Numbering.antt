@@ -9,11 +9,11 @@ use Rattle.acyc_edges.specs.Encoding.{rule_at}
 use Rattle.acyc_edges.specs.declared.name.Name.{Name}
 use Rattle.acyc_edges.specs.Names.{is_new, index_by, same_name, atom_of_name}
 use Rattle.acyc_edges.specs.private.Numbers.{is_numbered, number_in, number_of, numbered, IsOnce}
-use Rattle.acyc_edges.specs.private.Sources.{In}
 use Rattle.acyc_edges.proofs.Inside.{in-right, in-any, in-filter, any-in, filter-in, map-in, in-none, false-from, not-both}
 use Rattle.acyc_edges.proofs.NameLaws.{same_name-is, is-same_name}
 use Rattle.acyc_edges.proofs.NameOrder.{index-here, append-more, map-append}
 use Rattle.acyc_edges.proofs.Totals.{Apart, filter-apart}
+use Rattle.asp_base.specs.Sets.{In}
 
 pub once-apart_names : (names : List Name) → IsOnce names → Apart names
 once-apart_names [] h = tt

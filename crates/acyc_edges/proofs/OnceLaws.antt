@@ -4,10 +4,9 @@ use Rattle.std.specs.List.{list_any}
 use Rattle.std.specs.Bool.{if◌then◌else◌}
 use Rattle.indexmap.specs.IndexSet.{insert_key}
 use Rattle.std.proofs.lemmas.Bool.{cases_Bool, eqb-true, eq-eqb, cond-true, cond-false, or_left}
-use Rattle.acyc_edges.specs.Encoding.{once}
-use Rattle.acyc_edges.specs.private.Sources.{In}
 use Rattle.acyc_edges.proofs.Inside.{in-any, any-in, in-filter, filter-in, false-from, not-both}
 use Rattle.acyc_edges.proofs.Numbering.{filter-append, take-more}
+use Rattle.asp_base.specs.Sets.{once, In}
 
 -- behind the others, where it is not among them
 pub with_one : List ℕ → ℕ → List ℕ

@@ -4,14 +4,13 @@ use Rattle.std.specs.List.{range_with_len}
 use Rattle.asp_base.specs.Sets.{members}
 use Rattle.graph_parts.specs.Divided.{is_cyclic_at}
 use Rattle.components.specs.Components.{AreComponents, number_of}
-use Rattle.components.specs.Divided.{Divided, cyclic_numbers}
+use Rattle.components.specs.Divided.{Divided, cyclic_numbers, part_of}
 use Rattle.components.specs.Parts.{ArePartsOf}
 use Rattle.components.proofs.AtomLaws.{heads-among}
 use Rattle.components.proofs.LinkLaws.{depends-found}
 use Rattle.ground_program.specs.Dependencies.{depends}
 use Rattle.ground_program.specs.Facts.{IsProgram}
 use Rattle.ground_program.specs.Ground.{Ground}
-use Rattle.acyc_edges.specs.Components.{part_of}
 use Rattle.acyc_edges.specs.private.Parts.{AreParts}
 use Rattle.acyc_edges.proofs.CyclicLaws.{member-test}
 use Rattle.acyc_edges.proofs.Walking.{first-step}

@@ -3,7 +3,7 @@ use Rattle.std.proofs.Common.{◌≡◌, refl, ◌∙◌, ap, subst, ℕ, true, 
 use Rattle.std.specs.List.{flat_map}
 use Rattle.std.proofs.lemmas.Bool.{and_parts, and_from, cases_Bool}
 use Rattle.asp_base.specs.Literal.{Pos, Neg, all_hold}
-use Rattle.asp_base.specs.Sets.{Set}
+use Rattle.asp_base.specs.Sets.{Set, In}
 use Rattle.asp_base.specs.Walks.{Acyclic}
 use Rattle.ground_program.specs.Facts.{IsProgram}
 use Rattle.ground_program.specs.Faithful.{Covers}
@@ -19,7 +19,6 @@ use Rattle.acyc_edges.specs.private.Parts.{AreParts}
 use Rattle.acyc_edges.proofs.Covered.{Backing, int_eq-again}
 use Rattle.acyc_edges.proofs.Covering.{made-covers}
 use Rattle.acyc_edges.proofs.Encoded.{HoldsName, says, limit, fires-says}
-use Rattle.acyc_edges.specs.private.Sources.{In}
 use Rattle.acyc_edges.proofs.Inside.{in-any, in-flat, map-in}
 use Rattle.acyc_edges.proofs.SourceLaws.{plain-are, plain-backed}
 use Rattle.acyc_edges.specs.private.Sources.{Cyc, Source, AreNames}

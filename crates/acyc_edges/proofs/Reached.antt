@@ -3,7 +3,7 @@ use Rattle.std.proofs.Common.{◌≡◌, refl, sym, ◌∙◌, ap, ap₂, subst,
 use Rattle.std.specs.List.{list_any, list_all}
 use Rattle.std.proofs.lemmas.Bool.{and_parts, and_from, or_cases, or_left, true≢false, eqb-true, eq-eqb, cases_Bool, cond-true, cond-false, not-true}
 use Rattle.asp_base.specs.Literal.{Literal, Pos, Neg, literal_holds, all_hold}
-use Rattle.asp_base.specs.Sets.{Set, none, members, cut, Same, Within}
+use Rattle.asp_base.specs.Sets.{Set, none, members, cut, Same, Within, In}
 use Rattle.ground_program.specs.Closed.{Closed}
 use Rattle.ground_program.specs.Facts.{IsProgram, Among, RuleFits}
 use Rattle.ground_program.specs.Ground.{Ground}
@@ -15,22 +15,21 @@ use Rattle.ground_program.proofs.FactLaws.{Stable-among}
 use Rattle.asp_base.proofs.Bools.{same_test}
 use Rattle.ground_program.proofs.Least.{same_within}
 use Rattle.ground_program.specs.Dependencies.{positives_of_body}
-use Rattle.acyc_edges.specs.Encoding.{literals_of, rule_at, is_head, is_cyclic, atoms_in, rules_of, head_at, inner_at, bodies_of, limits_of, made}
+use Rattle.acyc_edges.specs.Encoding.{rule_at, is_head, is_cyclic, atoms_in, rules_of, head_at, inner_at, bodies_of, limits_of, made}
 use Rattle.acyc_edges.specs.declared.name.Name.{Name}
 use Rattle.acyc_edges.specs.declared.name.Name.TheVariants.{Atom, Complement, Fires, Chosen, Left, Backed, NoLater, Backs}
 use Rattle.acyc_edges.specs.Names.{is_new, atom_of_name}
-use Rattle.ground_program.specs.Normal.{IsNormalHead, IsNormalBody, AreNormal}
+use Rattle.ground_program.specs.Normal.{IsNormalHead, IsNormalBody, AreNormal, literals_of}
+use Rattle.ground_program.proofs.Negative.{Supported-from_Founded}
 use Rattle.acyc_edges.proofs.Agreeing.{all_hold-agree, holds-agree}
 use Rattle.acyc_edges.proofs.Covered.{head-cyclic}
 use Rattle.acyc_edges.proofs.Encoded.{HoldsName, normal-holds, one, made-in, step-cases, name-step, kept-step}
 use Rattle.acyc_edges.proofs.Founding.{body-positive}
-use Rattle.acyc_edges.specs.private.Sources.{In}
 use Rattle.acyc_edges.proofs.Inside.{in-append, any-in, in-any, all-in, in-all, each-in, in-filter, filter-in, none-in, in-none, member-in, in-member, in-map, map-in, not-both, false-from}
 use Rattle.acyc_edges.proofs.NameLaws.{num-new}
 use Rattle.acyc_edges.specs.private.Sources.{Cyc, Source, AreNames}
 use Rattle.acyc_edges.proofs.Sources.{rule-counted, counted-rule, once-in, in-once, has-is_head, is_head-has, is_head-atom, body-among}
 use Rattle.acyc_edges.proofs.StageOrder.{Gives, no_later, no_later-self, no_later-gives, gives-no_later}
-use Rattle.acyc_edges.proofs.Tight.{Supported-from_Founded}
 
 -- ---- rules of an atom by their indices
 

@@ -2,6 +2,7 @@
 use Rattle.std.proofs.Common.{◌≡◌, refl, ap, ap₂, ℕ, cond, ◌==◌, List, [], ◌∷◌, ◌++◌, map, inl, inr}
 use Rattle.std.specs.List.{flat_map}
 use Rattle.asp_base.specs.Literal.{Pos, Neg}
+use Rattle.asp_base.specs.Sets.{In}
 use Rattle.ground_program.specs.Ground.{Ground}
 use Rattle.ground_program.specs.declared.program.Head.TheVariants.{Nothing, One}
 use Rattle.ground_program.specs.declared.program.Body.TheVariants.{All}
@@ -10,7 +11,6 @@ use Rattle.acyc_edges.specs.declared.name.Name.TheVariants.{Atom, Complement, Fi
 use Rattle.acyc_edges.specs.Encoding.{rules_of, head_at, inner_at, node_of_atom, bodies_of, limits_of, edges_of, rules_of_name}
 use Rattle.acyc_edges.specs.Names.{atom_of_name, same_name}
 use Rattle.acyc_edges.specs.private.Numbers.{number_of, numbered}
-use Rattle.acyc_edges.specs.private.Sources.{In}
 use Rattle.acyc_edges.proofs.Inside.{in-any}
 use Rattle.acyc_edges.proofs.NameLaws.{is-same_name}
 use Rattle.acyc_edges.proofs.Numbering.{number-is}

@@ -4,7 +4,7 @@ use Rattle.std.specs.List.{sum_by, flat_map}
 use Rattle.std.proofs.lemmas.Bool.{true≢false, eqb-true, eq-eqb}
 use Rattle.std.proofs.lemmas.List.{length-map}
 use Rattle.asp_base.specs.Literal.{Literal, Pos, Neg}
-use Rattle.asp_base.specs.Sets.{members}
+use Rattle.asp_base.specs.Sets.{members, once, In}
 use Rattle.ground_program.specs.Facts.{IsProgram}
 use Rattle.rising_numbers.specs.Rising.{RisesFrom}
 use Rattle.ground_program.specs.Ground.{Ground}
@@ -18,13 +18,12 @@ use Rattle.ground_program.specs.declared.program.Edge.{Edge}
 use Rattle.ground_program.specs.declared.program.Rule.{Rule}
 use Rattle.ground_program.specs.Dependencies.{positives_of_literals, positives_of_body}
 use Rattle.tangle_laws.proofs.PartSums.{total, total-append, total-le, total-both}
-use Rattle.acyc_edges.specs.Encoding.{once, counted, rule_at, is_head, has_head_in, literals_of, is_cyclic, atoms_in, rules_of, head_at, inner_at, ends_of, both_names, edge_names, plain_names, unique_names, rules_of_name, edges_of, kept_rules, kept_edges, made, plain, unique}
+use Rattle.acyc_edges.specs.Encoding.{counted, rule_at, is_head, has_head_in, is_cyclic, atoms_in, rules_of, head_at, inner_at, ends_of, both_names, edge_names, plain_names, unique_names, rules_of_name, edges_of, kept_rules, kept_edges, made, plain, unique}
 use Rattle.acyc_edges.specs.declared.name.Name.{Name}
 use Rattle.acyc_edges.specs.declared.name.Name.TheVariants.{Atom, Complement, Fires, Chosen, Left, Backed, NoLater, Backs}
 use Rattle.acyc_edges.specs.Names.{is_new, atom_of_name}
-use Rattle.ground_program.specs.Normal.{IsNormalBody, AreNormal}
+use Rattle.ground_program.specs.Normal.{IsNormalBody, AreNormal, literals_of}
 use Rattle.acyc_edges.specs.private.Pairs.{rules_in, occurrences_in, pairs_in, pairs}
-use Rattle.acyc_edges.specs.private.Sources.{In}
 use Rattle.acyc_edges.proofs.Inside.{filter-in, in-member}
 use Rattle.acyc_edges.proofs.Reached.{index-normal, index-head}
 use Rattle.acyc_edges.proofs.Sources.{counted-suc, is_head-atom}

@@ -2,7 +2,7 @@
 use Rattle.std.proofs.Common.{◌≡◌, refl, sym, ◌∙◌, ap, subst, ℕ, true, ◌==◌, List, [], ◌∷◌, ◌++◌, map, ⊎_elim, inl, inr}
 use Rattle.std.specs.List.{flat_map}
 use Rattle.std.proofs.lemmas.Bool.{eqb-true, eq-eqb}
-use Rattle.asp_base.specs.Sets.{members}
+use Rattle.asp_base.specs.Sets.{members, In}
 use Rattle.ground_program.specs.Facts.{IsProgram}
 use Rattle.ground_program.specs.Ground.{Ground}
 use Rattle.ground_program.specs.Dependencies.{positives_of_body}
@@ -10,7 +10,6 @@ use Rattle.acyc_edges.specs.Encoding.{rule_at, atoms_in, rules_of, head_at, inne
 use Rattle.acyc_edges.specs.declared.name.Name.{Name}
 use Rattle.acyc_edges.specs.declared.name.Name.TheVariants.{Atom, Complement, Fires, Chosen, Left, Backed, NoLater, Backs}
 use Rattle.ground_program.specs.Normal.{AreNormal}
-use Rattle.acyc_edges.specs.private.Sources.{In}
 use Rattle.acyc_edges.proofs.Inside.{in-left, in-right, in-append, in-map, map-in, in-flat, flat-in, in-filter, filter-in, member-in, in-member}
 use Rattle.acyc_edges.proofs.Reached.{index-head, inner-is}
 use Rattle.acyc_edges.specs.private.Sources.{Cyc, Source, AreNames}

@@ -2,7 +2,7 @@
 use Rattle.std.proofs.Common.{◌≡◌, refl, sym, ap, subst, ℕ, suc, Bool, true, false, not, ◌==◌, List, [], ◌∷◌, map, filter, ⊎_elim, inl, inr, ◌⊎◌}
 use Rattle.std.proofs.lemmas.Bool.{true≢false, eqb-true}
 use Rattle.asp_base.specs.Literal.{Literal, Pos, Neg}
-use Rattle.asp_base.specs.Sets.{Set, members}
+use Rattle.asp_base.specs.Sets.{Set, members, once, In}
 use Rattle.ground_program.specs.Facts.{Among, LiteralsFit, BodyFits}
 use Rattle.ground_program.specs.Stable.{head_has}
 use Rattle.ground_program.specs.declared.program.Head.{Head}
@@ -11,9 +11,8 @@ use Rattle.ground_program.specs.declared.program.Body.{Body}
 use Rattle.ground_program.specs.declared.program.Body.TheVariants.{All, Sum}
 use Rattle.ground_program.specs.declared.program.Rule.{Rule}
 use Rattle.ground_program.specs.Dependencies.{positives_of_literals, positives_of_body}
-use Rattle.acyc_edges.specs.Encoding.{once, counted, rule_at, is_head, head_atom}
+use Rattle.acyc_edges.specs.Encoding.{counted, rule_at, is_head, head_atom}
 use Rattle.ground_program.specs.Normal.{IsNormalHead, IsNormalBody}
-use Rattle.acyc_edges.specs.private.Sources.{In}
 use Rattle.acyc_edges.proofs.Inside.{in-map, map-in, in-filter, filter-in}
 
 -- ---- lists of indices, and each number once

@@ -2,7 +2,7 @@
 -- atom comes no later than which, that the rules say so, and that nothing else meets what they say (Gebser et al. 2014).
 use Rattle.std.proofs.Common.{◌≡◌, refl, sym, ◌∙◌, ap, subst, ℕ, zero, suc, ◌≤◌, ◌<◌, ◌-◌, ◌+◌, Bool, true, false, not, ◌&&◌, ◌||◌, List, [], ◌∷◌, filter, length, ⊎_elim, arith}
 use Rattle.std.proofs.lemmas.Bool.{and_parts, and_from, or_cases, or_left, or_right, true≢false, eqb-true, cases_Bool, cases_lt, not-true}
-use Rattle.asp_base.specs.Sets.{Set, none, Within}
+use Rattle.asp_base.specs.Sets.{Set, none, Within, In}
 use Rattle.asp_base.specs.Walks.{IsWalk, Acyclic}
 use Rattle.ground_program.specs.Closed.{Closed}
 use Rattle.ground_program.specs.Stable.{holds, head_has, derives, step, rounds, grown}
@@ -13,9 +13,9 @@ use Rattle.ground_program.proofs.Least.{grown-closed, grown-smallest, rounds-wit
 use Rattle.ground_program.specs.Dependencies.{positives_of_body}
 use Rattle.acyc_edges.specs.Encoding.{has_head_in}
 use Rattle.ground_program.specs.Normal.{IsNormalHead, IsNormalBody, AreNormal}
-use Rattle.acyc_edges.specs.private.Sources.{In}
+use Rattle.ground_program.proofs.FactLaws.{normal-weighed}
 use Rattle.acyc_edges.proofs.Inside.{any-in, in-any, each-in, in-each, in-filter, filter-in, not-both, false-from}
-use Rattle.acyc_edges.proofs.Founding.{body-weighed, normal-weighed, body-positive, body-hold}
+use Rattle.acyc_edges.proofs.Founding.{body-weighed, body-positive, body-hold}
 
 -- a rule of the atom whose body holds in the set, and of whose positive atoms in S the claim is true
 pub record Gives (rules : List Rule) (S M : Set) (Claim : ℕ → Type 0) (a : ℕ) : Type 0 where

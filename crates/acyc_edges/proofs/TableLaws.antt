@@ -1,9 +1,9 @@
 -- Lookups in the tables.
-use Rattle.std.proofs.Common.{◌≡◌, refl, sym, ◌∙◌, ap, subst, ℕ, zero, suc, ◌+◌, ◌<◌, ◌≤◌, Bool, true, false, cond, ◌==◌, List, [], ◌∷◌, ◌++◌, map, filter, take, length, slice_index_or, ⊎_elim, inl, inr, arith}
+use Rattle.std.proofs.Common.{◌≡◌, refl, sym, ◌∙◌, ap, subst, ℕ, zero, suc, ◌+◌, ◌<◌, ◌≤◌, Bool, true, false, cond, ◌==◌, List, [], ◌∷◌, ◌++◌, map, filter, take, length, slice_index_or, ⊎_elim, inl, inr, length-append, arith}
 use Rattle.std.specs.List.{flat_map, range_with_len, AllByRecursion}
 use Rattle.std.proofs.lemmas.Bool.{eqb-true, eq-eqb, cond-true, cond-false}
 use Rattle.std.proofs.lemmas.List.{length-map, append-nil}
-use Rattle.asp_base.specs.Sets.{members}
+use Rattle.asp_base.specs.Sets.{members, once, In}
 use Rattle.graph_parts.specs.Groups.{pair_at, values_of}
 use Rattle.components.specs.Components as links
 use Rattle.components.proofs.AtomLaws.{node-differ, node-below}
@@ -14,9 +14,9 @@ use Rattle.ground_program.specs.declared.program.Head.{Head}
 use Rattle.ground_program.specs.declared.program.Head.TheVariants.{Nothing, One, Choice}
 use Rattle.ground_program.specs.declared.program.Rule.{Rule}
 use Rattle.ground_program.specs.Dependencies.{positives_of_body}
-use Rattle.acyc_edges.specs.Encoding.{once, counted, rule_at, is_head, head_atom, rules_of, inner_at}
+use Rattle.ground_program.proofs.GapLaws.{range-more}
+use Rattle.acyc_edges.specs.Encoding.{counted, rule_at, is_head, head_atom, rules_of, inner_at}
 use Rattle.acyc_edges.specs.private.Tables.{with_owner, owner_at, owners_of, inner_by, inner_head}
-use Rattle.acyc_edges.specs.private.Sources.{In}
 use Rattle.acyc_edges.proofs.Inside.{each-in, in-each, in-member, flat-in, filter-in, false-from, not-both}
 use Rattle.acyc_edges.proofs.Numbering.{filter-append, flat-append}
 use Rattle.acyc_edges.proofs.Sources.{counted-rule}
@@ -79,6 +79,19 @@ owners-below P program j h =
     let k : (i : ℕ) × In i (counted 0 P.rules) × In (pair_at (owners_of P) j) (owner_at P i) = flat-in (owner_at P) (counted 0 P.rules) (pair_at (owners_of P) j) (pair-in (owners_of P) j h) in
     owner-below P (rule_at P.rules k.0).head k.0 (pair_at (owners_of P) j) (head-fits P program k.0 k.1) k.2
 
+-- no more owners than rules
+pub owners-few : (P : Ground) → length (owners_of P) ≤ length P.rules
+owners-few P = subst (λ n. length (owners_of P) ≤ n) (counted-length 0 P.rules) (few (counted 0 P.rules))
+  where
+    one : (i : ℕ) (head : Head) → length (with_owner P.atoms i head) ≤ 1
+    one i Nothing = omega arith
+    one i (One a) = omega arith
+    one i (Choice as_) = omega arith
+
+    few : (is : List ℕ) → length (flat_map (owner_at P) is) ≤ length is
+    few [] = omega arith
+    few (i ∷ is) = omega (arith, length-append (owner_at P i) (flat_map (owner_at P) is), one i (rule_at P.rules i).head, few is)
+
 -- the atoms of a rule's body in the component of its head
 inner-map : (part : ℕ → ℕ) (rules : List Rule) (i : ℕ) → i < length rules → slice_index_or (map (inner_by part) rules) i [] ≡ inner_by part (rule_at rules i)
 inner-map part [] i h = absurd (omega arith)
@@ -113,15 +126,11 @@ inner-length P part inner is = ap length is ∙ length-map P.rules (inner_by par
 pub part-among : (p : ℕ → Bool) (atoms : List ℕ) → AllByRecursion (Among atoms) (filter p atoms)
 part-among p atoms = in-each (Among atoms) (filter p atoms) (λ a h. in-member atoms a ((filter-in p atoms a h).0))
 
-range-more : (a n : ℕ) → range_with_len a (suc n) ≡ range_with_len a n ++ ((a + n) ∷ [])
-range-more a zero = ap (λ x. x ∷ []) (let e : a ≡ a + 0 = omega arith in e)
-range-more a (suc n) = ap (λ xs. a ∷ xs) (range-more (a + 1) n ∙ ap (λ x. range_with_len (a + 1) n ++ (x ∷ [])) (let e : a + 1 + n ≡ a + suc n = omega arith in e))
-
 -- one component more
 pub part-more : {B : Type 0} (f : ℕ → List B) (p : ℕ → Bool) (n : ℕ) → flat_map f (filter p (range_with_len 1 (n + 1))) ≡ flat_map f (filter p (range_with_len 1 n)) ++ flat_map f (cond (p (n + 1)) ((n + 1) ∷ []) [])
 part-more f p n =
     ap (λ k. flat_map f (filter p (range_with_len 1 k))) (let e : n + 1 ≡ suc n = omega arith in e)
-    ∙ (ap (λ xs. flat_map f (filter p xs)) (range-more 1 n ∙ ap (λ k. range_with_len 1 n ++ (k ∷ [])) (let e : 1 + n ≡ n + 1 = omega arith in e))
+    ∙ (ap (λ xs. flat_map f (filter p xs)) (range-more n 1 ∙ ap (λ k. range_with_len 1 n ++ (k ∷ [])) (let e : 1 + n ≡ n + 1 = omega arith in e))
     ∙ (ap (flat_map f) (filter-append p (range_with_len 1 n) ((n + 1) ∷ [])) ∙ flat-append f (filter p (range_with_len 1 n)) (filter p ((n + 1) ∷ []))))
 
 pub part-taken : {B : Type 0} (f : ℕ → List B) (p : ℕ → Bool) (n : ℕ) → p (n + 1) ≡ true → flat_map f (filter p (range_with_len 1 n)) ++ f (n + 1) ≡ flat_map f (filter p (range_with_len 1 (n + 1)))

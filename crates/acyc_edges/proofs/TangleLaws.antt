@@ -1,9 +1,9 @@
 -- The pairs that the lemmas count are those of the components.
-use Rattle.std.proofs.Common.{◌≡◌, refl, sym, ◌∙◌, ap, ap₂, subst, ℕ, ◌+◌, ◌*◌, ◌==◌, Bool, true, false, cond, ◌||◌, List, [], ◌∷◌, map, filter, length, arith}
+use Rattle.std.proofs.Common.{◌≡◌, refl, sym, ◌∙◌, ap, ap₂, subst, ℕ, ◌+◌, ◌*◌, ◌==◌, Bool, true, false, cond, ◌||◌, List, map, filter, length, arith}
 use Rattle.std.specs.List.{list_any}
 use Rattle.std.proofs.lemmas.List.Sums.{length-filter}
 use Rattle.components.specs.Components.{number_of}
-use Rattle.components.specs.Divided.{Divided, cyclic_numbers, cyclic_parts, members_of}
+use Rattle.components.specs.Divided.{Divided, cyclic_numbers, cyclic_parts, members_of, part_of}
 use Rattle.components.specs.Parts.{ArePartsOf}
 use Rattle.components.proofs.MemberLaws.{enters-numbered, occurrences-numbered}
 use Rattle.ground_program.specs.Dependencies.{positives_of_body}
@@ -16,21 +16,12 @@ use Rattle.ground_program.specs.Tangle as tangle
 use Rattle.ground_program.specs.declared.program.Head.{Head}
 use Rattle.ground_program.specs.declared.program.Head.TheVariants.{Nothing, One, Choice}
 use Rattle.ground_program.specs.declared.program.Rule.{Rule}
-use Rattle.tangle_laws.proofs.PartSums.{total, total-both}
-use Rattle.acyc_edges.specs.Components.{part_of}
+use Rattle.tangle_laws.proofs.PartSums.{total-both, total-kept}
 use Rattle.acyc_edges.specs.Encoding.{has_head_in}
 use Rattle.acyc_edges.specs.private.Pairs.{rules_in, occurrences_in, pairs_in, pairs}
-use Rattle.acyc_edges.specs.private.Sources.{In}
 use Rattle.acyc_edges.proofs.Inside.{each-in}
 use Rattle.acyc_edges.proofs.Totals.{total-sum_by, total-map, total-same, total-one}
-
-total-cond : {A : Type 0} (p : A → Bool) (f : A → ℕ) (xs : List A) → total (λ x. cond (p x) (f x) 0) xs ≡ total f (filter p xs)
-total-cond p f [] = refl
-total-cond {A} p f (x ∷ xs) = go (p x) (total-cond p f xs)
-  where
-    go : (b : Bool) → total (λ y. cond (p y) (f y) 0) xs ≡ total f (filter p xs) → cond b (f x) 0 + total (λ y. cond (p y) (f y) 0) xs ≡ total f (cond b (x ∷ filter p xs) (filter p xs))
-    go true h = ap (λ n. f x + n) h
-    go false h = omega arith
+use Rattle.asp_base.specs.Sets.{In}
 
 any-head : (S : ℕ → Bool) (head : Head) → IsNormalHead head → list_any S (atoms_of_head head) ≡ has_head_in S head
 any-head S Nothing n = refl
@@ -68,7 +59,7 @@ module _ (P : Ground) (program : IsProgram P) (normal : AreNormal P.rules) (numb
       sym (total-sum_by (λ rule. cond (enters (members_of c P.atoms numbers) rule) (1 + occurrences (members_of c P.atoms numbers) rule) 0) P.rules)
       ∙ (total-same (λ rule. cond (enters (members_of c P.atoms numbers) rule) (1 + occurrences (members_of c P.atoms numbers) rule) 0) (λ rule. cond (heads c rule) (1 + o c rule) 0) P.rules
       (λ rule i. ap₂ (λ (b : Bool) n. cond b (1 + n) 0) (enters-is c rule i) (occurs-is c rule i))
-      ∙ (total-cond (heads c) (λ rule. 1 + o c rule) P.rules
+      ∙ (sym (total-kept (heads c) (λ rule. 1 + o c rule) P.rules)
       ∙ (total-both (λ rule. 1) (o c) (rules_in P part parts c)
       ∙ ap₂ (λ m n. m + n) (total-one (rules_in P part parts c)) (total-sum_by (o c) (rules_in P part parts c)))))
 

@@ -2,30 +2,30 @@
 use Rattle.std.proofs.Common.{◌≡◌, refl, sym, ◌∙◌, ap, subst, ℕ, ◌<◌, Bool, true, false, cond, ◌&&◌, ◌||◌, ◌==◌, List, [], ◌∷◌, ◌++◌, map, ⊎_elim, inl, inr, ◌⊎◌, arith}
 use Rattle.std.proofs.lemmas.Bool.{and_parts, or_cases, true≢false, eqb-true, eq-eqb, cases_Bool, cond-true, cond-false}
 use Rattle.asp_base.specs.Literal.{Literal, Pos, Neg}
-use Rattle.asp_base.specs.Sets.{Set, none, members}
+use Rattle.asp_base.specs.Sets.{Set, none, members, In}
 use Rattle.asp_base.specs.Walks.{Acyclic}
 use Rattle.ground_program.specs.Facts.{IsProgram, Among, LiteralsFit, HeadFits, BodyFits, RuleFits}
 use Rattle.ground_program.specs.Ground.{Ground}
 use Rattle.ground_program.specs.Occurrences.{atoms_of_head}
-use Rattle.ground_program.specs.Stable.{holds, head_has, derives, step, least, joined, Supported, Founded, Stable}
+use Rattle.ground_program.specs.Stable.{holds, head_has, derives, least, joined, Supported, Founded, Stable}
 use Rattle.ground_program.specs.declared.program.Body.{Body}
 use Rattle.ground_program.specs.declared.program.Body.TheVariants.{All, Sum}
 use Rattle.ground_program.specs.declared.program.Head.{Head}
 use Rattle.ground_program.specs.declared.program.Head.TheVariants.{Nothing, One, Choice}
 use Rattle.ground_program.specs.declared.program.Rule.{Rule}
-use Rattle.ground_program.proofs.Least.{grown-smallest, grown-fixpoint, same_within}
-use mathlib.Core.Path.{fun_ext}
+use Rattle.ground_program.proofs.Least.{grown-smallest, same_within}
 use Rattle.ground_program.specs.Dependencies.{positives_of_literals, positives_of_body, depends}
-use Rattle.acyc_edges.specs.Encoding.{has_head_in, is_head, literals_of, rule_at, is_cyclic, rules_of, head_at, inner_at, bodies_of, limits_of, kept_rules, made}
+use Rattle.acyc_edges.specs.Encoding.{has_head_in, is_head, rule_at, is_cyclic, rules_of, head_at, inner_at, bodies_of, limits_of, kept_rules, made}
 use Rattle.acyc_edges.specs.declared.name.Name.{Name}
 use Rattle.acyc_edges.specs.declared.name.Name.TheVariants.{Atom, Complement, Fires, Chosen, Left, Backed, NoLater, Backs}
 use Rattle.acyc_edges.specs.Names.{is_new, atom_of_name}
-use Rattle.ground_program.specs.Normal.{IsNormalHead, IsNormalBody, AreNormal}
+use Rattle.ground_program.specs.Normal.{IsNormalHead, IsNormalBody, AreNormal, literals_of}
+use Rattle.ground_program.proofs.FactLaws.{normal-weighed}
+use Rattle.ground_program.proofs.Negative.{Supported-from_Founded}
 use Rattle.acyc_edges.specs.private.Parts.{AreParts}
 use Rattle.acyc_edges.proofs.Covered.{rule-depends}
 use Rattle.acyc_edges.proofs.Encoded.{StaysRule, one, made-in, in-kept, kept-in, step-cases, from-kept, made-rule-normal}
-use Rattle.acyc_edges.proofs.Founding.{Picks, within-least, normal-weighed}
-use Rattle.acyc_edges.specs.private.Sources.{In}
+use Rattle.acyc_edges.proofs.Founding.{Picks, within-least}
 use Rattle.acyc_edges.proofs.Inside.{in-left, in-right, in-append, any-in, in-any, in-map, map-in, each-in, in-each, filter-in, member-in, not-both}
 use Rattle.acyc_edges.proofs.NameLaws.{old-name, num-new}
 use Rattle.acyc_edges.specs.private.Sources.{Cyc, Source, AreNames}
@@ -90,11 +90,6 @@ kept-cyclic : (S : ℕ → Bool) (head : Head) (z : ℕ) → is_head head z ≡ 
 kept-cyclic S Nothing z h k = absurd (true≢false (sym h))
 kept-cyclic S (One b) z h k = subst (λ x. S x ≡ false) (eqb-true b z h) k
 kept-cyclic S (Choice as_) z h k = absurd (true≢false (sym h))
-
-pub Supported-from_Founded : (P : Ground) (M : Set) → AreNormal P.rules → Founded P M → Supported P M
-Supported-from_Founded P M n f =
-    let same : least P M ≡ M = fun_ext f.least_is in
-    record { step_is = λ a. subst (λ X. step P.rules M X a ≡ X a) same (grown-fixpoint P.rules M (normal-weighed P.rules n) a); keeps = f.keeps }
 
 module _ (P : Ground) (program : IsProgram P) (normal : AreNormal P.rules) (part : ℕ → ℕ) (parts : List ℕ) (names : List Name) (are : AreNames P part parts names) where
   pub made-normal : AreNormal (made P part parts names).rules

@@ -4,8 +4,8 @@ use Rattle.std.specs.List.{sum_by, flat_map}
 use Rattle.std.proofs.lemmas.Bool.{cases_Bool, cond-true, cond-false}
 use Rattle.rising_numbers.specs.Rising.{RisesFrom}
 use Rattle.tangle_laws.proofs.PartSums.{total, total-append, sum_by-total}
-use Rattle.acyc_edges.specs.private.Sources.{In}
 use Rattle.acyc_edges.proofs.Inside.{filter-in, not-both}
+use Rattle.asp_base.specs.Sets.{In}
 
 pub total-sum_by : {A : Type 0} (f : A → ℕ) (xs : List A) → total f xs ≡ sum_by f xs
 total-sum_by f xs = sym (sum_by-total f xs)

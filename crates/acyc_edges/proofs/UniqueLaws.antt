@@ -4,7 +4,7 @@ use Rattle.std.specs.List.{list_all, flat_map}
 use Rattle.std.specs.Ordering.{int_eq}
 use Rattle.std.proofs.lemmas.Bool.{and_parts, and_from, true≢false, eqb-true, eq-eqb, cases_Bool, cond-true, cond-false, not-true}
 use Rattle.asp_base.specs.Literal.{Pos, Neg, all_hold}
-use Rattle.asp_base.specs.Sets.{Set, members, cut, Same, Within}
+use Rattle.asp_base.specs.Sets.{Set, members, cut, Same, Within, In}
 use Rattle.asp_base.specs.Walks.{Acyclic}
 use Rattle.ground_program.specs.Facts.{IsProgram, Among, RuleFits}
 use Rattle.ground_program.specs.Faithful.{Covers, Faithful}
@@ -23,7 +23,6 @@ use Rattle.acyc_edges.proofs.Agreeing.{holds-agree}
 use Rattle.acyc_edges.proofs.Covered.{Backing, int_eq-again}
 use Rattle.acyc_edges.proofs.Covering.{made-covers}
 use Rattle.acyc_edges.proofs.Encoded.{HoldsName, step-cases, from-kept, says, hears, limit, fires-says, fires-hears}
-use Rattle.acyc_edges.specs.private.Sources.{In}
 use Rattle.acyc_edges.proofs.Inside.{in-append, in-any, in-flat, flat-in, in-map, map-in, in-all, all-in, each-in}
 use Rattle.acyc_edges.proofs.SourceLaws.{unique-are, unique-pair}
 use Rattle.acyc_edges.proofs.Reached as reached

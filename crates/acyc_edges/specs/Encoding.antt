@@ -7,24 +7,19 @@ use Rattle.std.specs.Prelude.{ℕ, zero, suc, ◌+◌, ℤ, pos, Bool, false, no
 use Rattle.std.specs.List.{filter, flat_map}
 use Rattle.std.specs.Ordering.{int_eq}
 use Rattle.asp_base.specs.Literal.{Literal, Pos, Neg}
-use Rattle.asp_base.specs.Sets.{members}
+use Rattle.asp_base.specs.Sets.{members, once}
 use Rattle.ground_program.specs.Ground.{Ground}
 use Rattle.rising_numbers.specs.Rising.{rising}
 use Rattle.ground_program.specs.declared.program.Head.{Head}
 use Rattle.ground_program.specs.declared.program.Head.TheVariants.{Nothing, One, Choice}
-use Rattle.ground_program.specs.declared.program.Body.{Body}
-use Rattle.ground_program.specs.declared.program.Body.TheVariants.{All, Sum}
+use Rattle.ground_program.specs.declared.program.Body.TheVariants.{All}
 use Rattle.ground_program.specs.declared.program.Rule.{Rule}
 use Rattle.ground_program.specs.declared.program.Edge.{Edge}
 use Rattle.ground_program.specs.Dependencies.{positives_of_body}
+use Rattle.ground_program.specs.Normal.{literals_of}
 use Rattle.acyc_edges.specs.declared.name.Name.{Name}
 use Rattle.acyc_edges.specs.declared.name.Name.TheVariants.{Atom, Complement, Fires, Chosen, Left, Backed, NoLater, Backs}
 use Rattle.acyc_edges.specs.Names.{is_new, index_by, atom_of_name}
-
--- each number where it stands first
-abbrev pub once : List ℕ → List ℕ
-once [] = []
-once (x ∷ xs) = x ∷ filter (λ y. not (x == y)) (once xs)
 
 -- the indices of a list's elements, from a first one on
 abbrev pub counted : {A : Type 0} → ℕ → List A → List ℕ
@@ -45,10 +40,6 @@ abbrev pub head_atom : Head → ℕ
 head_atom Nothing = 0
 head_atom (One a) = a
 head_atom (Choice as_) = 0
-
-abbrev pub literals_of : Body → List Literal
-literals_of (All lits) = lits
-literals_of (Sum bound items) = []
 
 abbrev pub has_head_in : (ℕ → Bool) → Head → Bool
 has_head_in S Nothing = false

@@ -1,4 +1,3 @@
-pub mod Components
 pub mod Encoding
 pub mod Names
 pub mod Refused

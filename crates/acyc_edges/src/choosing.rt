@@ -7,13 +7,12 @@
 ghost use Rattle.std.specs.Prelude.{◌≡◌, ◌*◌, ◌≤◌, ◌^◌, IfOk};
 ghost use Rattle.asp_base.specs.Sets.{members, Within};
 ghost use Rattle.asp_base.specs.Walks.{Acyclic};
-ghost use Rattle.components.specs.Divided.{cyclic_numbers};
+ghost use Rattle.components.specs.Divided.{cyclic_numbers, part_of};
 ghost use Rattle.components.specs.Parts.{ArePartsOf};
 ghost use Rattle.ground_program.specs.Dependencies.{depends};
 ghost use Rattle.ground_program.specs.Faithful.{Covers};
 ghost use Rattle.ground_program.specs.Normal.{AreNormal};
 ghost use Rattle.ground_program.specs.Size.{size};
-ghost use Rattle.acyc_edges.specs.Components.{part_of};
 ghost use Rattle.acyc_edges.specs.Encoding.{plain};
 ghost use Rattle.acyc_edges.specs.Staying.{StayFirst};
 

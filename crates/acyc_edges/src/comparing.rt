@@ -7,14 +7,13 @@
 ghost use Rattle.std.specs.Prelude.{◌≡◌, ◌+◌, ◌*◌, ◌≤◌, ◌^◌, IfOk, IfErr};
 ghost use Rattle.asp_base.specs.Sets.{members, Within};
 ghost use Rattle.asp_base.specs.Walks.{Acyclic};
-ghost use Rattle.components.specs.Divided.{cyclic_numbers, cyclic_parts};
+ghost use Rattle.components.specs.Divided.{cyclic_numbers, cyclic_parts, part_of};
 ghost use Rattle.components.specs.Parts.{ArePartsOf};
 ghost use Rattle.ground_program.specs.Dependencies.{depends};
 ghost use Rattle.ground_program.specs.Faithful.{Faithful};
 ghost use Rattle.ground_program.specs.Normal.{AreNormal};
 ghost use Rattle.ground_program.specs.Size.{size};
 ghost use Rattle.ground_program.specs.Tangle.{pairs};
-ghost use Rattle.acyc_edges.specs.Components.{part_of};
 ghost use Rattle.acyc_edges.specs.Encoding.{unique};
 ghost use Rattle.acyc_edges.specs.Refused.{UniqueRefused};
 ghost use Rattle.acyc_edges.specs.Staying.{StayFirst};

@@ -2,8 +2,7 @@
 
 ghost use Rattle.std.specs.Prelude.{◌≡◌, ◌++◌, IfOk, OnOk};
 ghost use Rattle.std.specs.List.{flat_map, AllByRecursion};
-ghost use Rattle.components.specs.Divided.{cyclic_numbers};
-ghost use Rattle.acyc_edges.specs.Components.{part_of};
+ghost use Rattle.components.specs.Divided.{cyclic_numbers, part_of};
 ghost use Rattle.acyc_edges.specs.declared.name.Name.TheVariants.{Chosen, Backs};
 ghost use Rattle.acyc_edges.specs.Encoding.{kept_edges, node_of};
 ghost use Rattle.acyc_edges.specs.private.Setting.{edges_by};

@@ -11,8 +11,7 @@ ghost use Rattle.acyc_edges.specs.Encoding.{has_head_in, is_cyclic, kept_rules};
 ghost use Rattle.acyc_edges.specs.Names.{is_new};
 ghost use Rattle.ground_program.specs.Normal.{AreNormal, IsNormalBody, IsNormalHead};
 ghost use Rattle.acyc_edges.specs.private.Numbers.{number_of};
-ghost use Rattle.components.specs.Divided.{cyclic_numbers};
-ghost use Rattle.acyc_edges.specs.Components.{part_of};
+ghost use Rattle.components.specs.Divided.{cyclic_numbers, part_of};
 
 use crate::name::Name;
 use crate::numbers::Numbers;

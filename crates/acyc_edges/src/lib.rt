@@ -4,7 +4,6 @@
 mod bodies;
 mod choosing;
 mod comparing;
-mod copies;
 mod edges;
 mod kept;
 mod kind;

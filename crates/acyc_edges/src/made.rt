@@ -10,7 +10,6 @@ ghost use Rattle.acyc_edges.specs.private.Kinds.{FewPairs, encoding};
 ghost use Rattle.acyc_edges.specs.private.Numbers.{IsOnce, numbered};
 ghost use Rattle.acyc_edges.specs.private.Setting.{AreNamesOf, made_by};
 
-use crate::copies::{copied_levels, copied_shows};
 use crate::edges::{kept_edges, push_all_edges};
 use crate::kept::{all_atoms, kept};
 use crate::kind::Kind;
@@ -22,7 +21,7 @@ use crate::setting::Setting;
 use crate::writer::Writer;
 use asp_base::Memory;
 use components::Parts;
-use ground_program::{Atoms, EdgeList, LitList, Program, RuleList};
+use ground_program::{Atoms, EdgeList, LitList, Program, RuleList, copied_levels, copied_shows};
 use std::alloc::Global;
 
 /// The rules that stay, and those of the names.

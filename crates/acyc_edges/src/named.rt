@@ -6,19 +6,19 @@ ghost use Rattle.asp_base.specs.Literal.{Pos, Neg};
 ghost use Rattle.ground_program.specs.declared.program.Head.TheVariants.{Nothing};
 ghost use Rattle.ground_program.specs.declared.program.Body.TheVariants.{All};
 ghost use Rattle.acyc_edges.specs.declared.name.Name.TheVariants.{Fires, Backed, NoLater, Backs};
-ghost use Rattle.acyc_edges.specs.Components.{part_of};
 ghost use Rattle.acyc_edges.specs.Encoding.{inner_at, rules_of};
 ghost use Rattle.acyc_edges.specs.private.Numbers.{number_of};
 ghost use Rattle.acyc_edges.specs.private.Setting.{rules_by};
 ghost use Rattle.acyc_edges.specs.private.Tables.{HasHead, IsOne, NameFits};
 ghost use Rattle.acyc_edges.specs.private.Written.{backing_rule, self_rule};
+ghost use Rattle.components.specs.Divided.{part_of};
 
 use crate::bodies::{chosen_body, later_body};
 use crate::name::Name;
-use crate::rules::{literals, push_limit, push_rule};
+use crate::rules::{push_limit, push_rule};
 use crate::writer::Writer;
 use asp_base::{Lit, Memory};
-use ground_program::{Body, Head, Rule, RuleList};
+use ground_program::{Body, Head, Rule, RuleList, literals};
 
 /// A rule fires where its body holds, and its head must hold then.
 fn push_fires(rules: &mut RuleList, writer: &Writer<'_>, index: u32) -> Result<(), Memory>

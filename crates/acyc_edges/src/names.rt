@@ -3,10 +3,10 @@
 ghost use Rattle.std.specs.Prelude.{◌≡◌, [], ◌∷◌, ◌++◌, map, IfOk, OnOk};
 ghost use Rattle.std.specs.List.{flat_map, AllByRecursion};
 ghost use Rattle.ground_program.specs.Facts.{Among};
-ghost use Rattle.acyc_edges.specs.Components.{part_of};
 ghost use Rattle.acyc_edges.specs.Encoding.{both_names, edge_names, rules_of};
 ghost use Rattle.acyc_edges.specs.declared.name.Name.TheVariants.{Fires, Chosen, Left, Backed, NoLater, Backs};
 ghost use Rattle.acyc_edges.specs.private.Kinds.{all_names, names_over};
+ghost use Rattle.components.specs.Divided.{part_of};
 
 use crate::kind::Kind;
 use crate::name::Name;

@@ -2,10 +2,9 @@
 
 ghost use Rattle.std.specs.Prelude.{◌≡◌, pos, ◌==◌, ◌<◌, ◌≤◌, ◌^◌, length, map, IfOk};
 ghost use Rattle.std.specs.List.{filter};
-ghost use Rattle.components.specs.Divided.{cyclic_numbers};
+ghost use Rattle.components.specs.Divided.{cyclic_numbers, part_of};
 ghost use Rattle.components.specs.Parts.{ArePartsOf};
 ghost use Rattle.ground_program.specs.Size.{size};
-ghost use Rattle.acyc_edges.specs.Components.{part_of};
 ghost use Rattle.acyc_edges.specs.Encoding.{is_cyclic, nodes_of};
 ghost use Rattle.acyc_edges.specs.Names.{index_by};
 ghost use Rattle.acyc_edges.specs.private.Nodes.{AreNodes, ends_of_edges, node_at};

@@ -1,7 +1,7 @@
 //! Each number of a list once.
 
 ghost use Rattle.std.specs.Prelude.{◌≡◌, IfOk};
-ghost use Rattle.acyc_edges.specs.Encoding.{once};
+ghost use Rattle.asp_base.specs.Sets.{once};
 
 use asp_base::Memory;
 use ground_program::AtomList;

@@ -2,7 +2,6 @@
 
 ghost use Rattle.std.specs.Prelude.{◌≡◌, ◌<◌, ◌^◌, [], ◌∷◌, ◌++◌, OnOk, OnErr};
 ghost use Rattle.asp_base.specs.Literal.{Pos, Neg};
-ghost use Rattle.acyc_edges.specs.Encoding.{literals_of};
 ghost use Rattle.ground_program.specs.declared.program.Head.TheVariants.{Nothing};
 ghost use Rattle.ground_program.specs.declared.program.Body.TheVariants.{All};
 
@@ -22,16 +21,6 @@ pub(crate) fn push_rule(
 {
     let body = Body::All(LitList::from_slice(alloc, lits)?);
     rules.push(Rule { head, body })
-}
-
-/// The literals of a body of literals; none of a body with weights.
-pub(crate) fn literals(body: &Body) -> &[Lit]
-    ensures { result.now ≡ literals_of body.now }
-{
-    match body {
-        Body::All(lits) => lits.as_slice(),
-        Body::Sum { .. } => &[],
-    }
 }
 
 /// Where the first atom holds, so must the second.

@@ -3,12 +3,11 @@
 ghost use Rattle.std.specs.Prelude.{◌≡◌, ◌<◌, ◌≤◌, ◌^◌, [], true, length, IfOk};
 ghost use Rattle.std.specs.List.{AllByRecursion};
 ghost use Rattle.asp_base.specs.Sets.{members};
-ghost use Rattle.components.specs.Divided.{cyclic_numbers};
+ghost use Rattle.components.specs.Divided.{cyclic_numbers, part_of};
 ghost use Rattle.components.specs.Parts.{ArePartsOf};
 ghost use Rattle.ground_program.specs.Facts.{IsProgram};
 ghost use Rattle.ground_program.specs.Normal.{AreNormal};
 ghost use Rattle.ground_program.specs.Size.{size};
-ghost use Rattle.acyc_edges.specs.Components.{part_of};
 ghost use Rattle.acyc_edges.specs.Encoding.{ends_of, inner_at, rules_of};
 ghost use Rattle.acyc_edges.specs.Encoding.{head_at, head_atom, node_of, node_of_atom, rule_at};
 ghost use Rattle.acyc_edges.specs.private.Tables.{HasHead};
@@ -125,7 +124,7 @@ impl<'a> Setting<'a> {
         program.known();
         let place = program.atoms.index_of(atom);
         let starts = self.tables.owners.starts.as_slice();
-        &self.tables.owners.values.as_slice()[starts[place]..starts[place + 1]]
+        &self.tables.owners.values.as_slice()[starts[place] as usize..starts[place + 1] as usize]
     }
 
     /// The positive atoms of the body of a rule of an atom in the component of its head, each once.

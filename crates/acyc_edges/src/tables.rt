@@ -5,18 +5,17 @@
 ghost use Rattle.std.specs.Prelude.{◌≡◌, ◌==◌, ◌<◌, ◌≤◌, ◌^◌, ◌++◌, map, length, IfOk, OnOk};
 ghost use Rattle.std.specs.List.{filter};
 ghost use Rattle.components.specs.Parts.{ArePartsOf};
+ghost use Rattle.components.specs.Divided.{part_of};
 ghost use Rattle.ground_program.specs.Facts.{Among, HeadFits, LiteralsFit, RuleFits};
 ghost use Rattle.ground_program.specs.Dependencies.{positives_of_literals};
 ghost use Rattle.ground_program.specs.Normal.{AreNormal, IsNormalBody, IsNormalHead};
 ghost use Rattle.acyc_edges.specs.private.Tables.{AreTables, inner_by, owners_of, with_owner};
-ghost use Rattle.acyc_edges.specs.Components.{part_of};
 
 use crate::once::each_once;
-use crate::rules::literals;
 use asp_base::{Lit, Memory};
 use components::Parts;
 use graph_parts::{Groups, grouped};
-use ground_program::{AtomList, Atoms, Head, Program, Rule};
+use ground_program::{AtomList, Atoms, Head, Program, Rule, literals};
 use std::alloc::Global;
 
 /// The rules of each atom, by its place, and for each rule the atoms of its body in the component of its head.

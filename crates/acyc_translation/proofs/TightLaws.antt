@@ -3,7 +3,7 @@
 use Rattle.std.proofs.Common.{◌≡◌, refl, sym, ◌∙◌, ap, subst, ℕ, ℤ, ◌≤◌, ◌<◌, Bool, true, false, List, length, ⊎_elim, arith}
 use mathlib.Core.Path.{fun_ext}
 use Rattle.std.proofs.lemmas.Bool.{and_parts, true≢false, cases_Bool}
-use Rattle.asp_base.specs.Sets.{Set, none, members, Same}
+use Rattle.asp_base.specs.Sets.{Set, none, members, Same, In}
 use Rattle.asp_base.specs.Walks.{Acyclic}
 use Rattle.ground_program.specs.Dependencies.{depends}
 use Rattle.ground_program.specs.Facts.{IsProgram}
@@ -13,7 +13,7 @@ use Rattle.ground_program.specs.Stable.{holds, head_has, derives, least, joined,
 use Rattle.ground_program.specs.declared.program.Rule.{Rule}
 use Rattle.ground_program.proofs.Least.{grown-smallest, same_within}
 use Rattle.ground_program.proofs.Negative.{Supported-from_Stable}
-use Rattle.ground_program.proofs.FactLaws.{step-among}
+use Rattle.ground_program.proofs.FactLaws.{step-among, normal-weighed}
 use Rattle.rising_numbers.specs.Rising.{place}
 use Rattle.rising_numbers.proofs.PlaceLaws.{place-within, place-outside}
 use Rattle.clause_store.specs.Clauses.{Clauses}
@@ -24,8 +24,7 @@ use Rattle.completion.specs.Completion.{atoms_at, completed, completion}
 use Rattle.completion.specs.Supported.{HasSupported, HasStable}
 use Rattle.completion.proofs.CompletionLaws.{zero_false, supported-from_clauses, completed-one, completed-has_atoms, completion-has_supported}
 use Rattle.acyc_edges.proofs.Covered.{rule-depends}
-use Rattle.acyc_edges.proofs.Founding.{Picks, within-least, normal-weighed}
-use Rattle.acyc_edges.specs.private.Sources.{In}
+use Rattle.acyc_edges.proofs.Founding.{Picks, within-least}
 use Rattle.acyc_edges.proofs.Inside.{any-in, each-in, member-in}
 use Rattle.acyc_edges.proofs.Sources.{has-is_head}
 use Rattle.acyc_translation.specs.private.Linked.{Linked}

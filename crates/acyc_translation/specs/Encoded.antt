@@ -12,13 +12,12 @@ use Rattle.ground_program.specs.Room.{room}
 use Rattle.ground_program.specs.Size.{size}
 use Rattle.ground_program.specs.Tangle.{AreCyclicComponents, tangle}
 use Rattle.clause_store.specs.Clauses.{Clauses}
-use Rattle.components.specs.Divided.{Divided, cyclic_numbers}
+use Rattle.components.specs.Divided.{Divided, cyclic_numbers, part_of}
 use Rattle.components.specs.Parts.{ArePartsOf}
 use Rattle.symbol_map.specs.FaithfulMap.{CoversMap, FaithfulMap}
 use Rattle.symbol_map.specs.Symbols.{Symbols}
 use Rattle.normalize.specs.Kept.{room_limit}
 use Rattle.acyc_edges.specs.Encoding.{plain, unique}
-use Rattle.acyc_edges.specs.Components.{part_of}
 use Rattle.acyc_translation.specs.declared.encoding.AcycRefusal.{AcycRefusal}
 use Rattle.acyc_translation.specs.declared.encoding.AcycRefusal.TheVariants.{TooLarge, Memory}
 use Rattle.acyc_translation.specs.declared.encoding.Encoding.{Encoding}

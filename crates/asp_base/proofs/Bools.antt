@@ -1,5 +1,6 @@
 -- Laws of truth values.
 use Rattle.std.proofs.Common.{◌≡◌, refl, sym, Bool, true, false, not, ◌&&◌, ◌||◌}
+use Rattle.std.proofs.lemmas.Bool.{true≢false}
 
 pub or_false : (b : Bool) → (b || false) ≡ b
 or_false true = refl
@@ -43,6 +44,15 @@ and_swap false false c = refl
 pub not-not : (b : Bool) → not (not b) ≡ b
 not-not true = refl
 not-not false = refl
+
+-- where the first test fails, the second does not count
+pub and_same : (b p q : Bool) → (b ≡ true → p ≡ q) → (b && p) ≡ (b && q)
+and_same true p q h = h refl
+and_same false p q h = refl
+
+pub imply : (b c : Bool) → (not b || c) ≡ true → b ≡ true → c ≡ true
+imply true c e h = e
+imply false c e h = absurd (true≢false (sym h))
 
 -- tests that pass together
 pub same_test : (a b : Bool) → (a ≡ true → b ≡ true) → (b ≡ true → a ≡ true) → a ≡ b

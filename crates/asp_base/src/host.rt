@@ -53,21 +53,23 @@ impl<'a, R: Files + Print + Eprint + Drop> HostDesk<'a, R> {
     }
 
     /// A call that reads fails at this place.
-    fn fail_reading(&mut self, place: Place<'a>)
+    fn fail_reading(&mut self, place: Place<'a>) -> Failed
         ensures { FailsReading (⟦<HostDesk<'a, R> as Desk<'a>>⟧.state self.old)
             (⟦<HostDesk<'a, R> as Desk<'a>>⟧.state self.new) (spot place.entry) }
     {
         self.read_faults = self.read_faults.saturating_add(1);
         self.read_failed = place;
+        Failed
     }
 
     /// A call that writes fails at this place.
-    fn fail_writing(&mut self, place: Place<'a>)
+    fn fail_writing(&mut self, place: Place<'a>) -> Failed
         ensures { FailsWriting (⟦<HostDesk<'a, R> as Desk<'a>>⟧.state self.old)
             (⟦<HostDesk<'a, R> as Desk<'a>>⟧.state self.new) (spot place.entry) }
     {
         self.write_faults = self.write_faults.saturating_add(1);
         self.write_failed = place;
+        Failed
     }
 }
 
@@ -92,16 +94,14 @@ impl<'a, R: Files + Print + Eprint + Drop> Desk<'a> for HostDesk<'a, R> {
             Err(_) => {
                 self.reading = None;
                 self.source = None;
-                self.fail_reading(Place::Name(name));
-                Err(Failed)
+                Err(self.fail_reading(Place::Name(name)))
             }
         }
     }
 
     fn read(&mut self, into: &mut [u8]) -> Result<usize, Failed> {
         let Some(name) = self.reading else {
-            self.fail_reading(Place::Nowhere);
-            return Err(Failed);
+            return Err(self.fail_reading(Place::Nowhere));
         };
         if into.is_empty() {
             return Ok(0);
@@ -111,10 +111,7 @@ impl<'a, R: Files + Print + Eprint + Drop> Desk<'a> for HostDesk<'a, R> {
                 self.given = self.given.saturating_add(count as u64).min(GIVEN_END);
                 Ok(count)
             }
-            Err(Failed) => {
-                self.fail_reading(Place::Name(name));
-                Err(Failed)
-            }
+            Err(Failed) => Err(self.fail_reading(Place::Name(name))),
         }
     }
 
@@ -125,42 +122,31 @@ impl<'a, R: Files + Print + Eprint + Drop> Desk<'a> for HostDesk<'a, R> {
                 self.sink = Some(file);
                 Ok(())
             }
-            Err(_) => {
-                self.fail_writing(Place::Name(name));
-                Err(Failed)
-            }
+            Err(_) => Err(self.fail_writing(Place::Name(name))),
         }
     }
 
     fn write(&mut self, bytes: &[u8]) -> Result<usize, Failed> {
         let Some(name) = self.writing else {
-            self.fail_writing(Place::Nowhere);
-            return Err(Failed);
+            return Err(self.fail_writing(Place::Nowhere));
         };
         if bytes.is_empty() {
             return Ok(0);
         }
         match write_some(&mut self.sink, bytes) {
             Ok(count) => Ok(count),
-            Err(Failed) => {
-                self.fail_writing(Place::Name(name));
-                Err(Failed)
-            }
+            Err(Failed) => Err(self.fail_writing(Place::Name(name))),
         }
     }
 
     fn end_write(&mut self) -> Result<(), Failed> {
         let Some(name) = self.writing else {
-            self.fail_writing(Place::Nowhere);
-            return Err(Failed);
+            return Err(self.fail_writing(Place::Nowhere));
         };
         self.writing = None;
         match close(&mut self.sink) {
             Ok(()) => Ok(()),
-            Err(Failed) => {
-                self.fail_writing(Place::Name(name));
-                Err(Failed)
-            }
+            Err(Failed) => Err(self.fail_writing(Place::Name(name))),
         }
     }
 
@@ -170,10 +156,7 @@ impl<'a, R: Files + Print + Eprint + Drop> Desk<'a> for HostDesk<'a, R> {
         }
         match self.rt.write_all(bytes) {
             Ok(()) => Ok(()),
-            Err(_) => {
-                self.fail_writing(Place::Output);
-                Err(Failed)
-            }
+            Err(_) => Err(self.fail_writing(Place::Output)),
         }
     }
 
@@ -206,9 +189,8 @@ fn write_some<F: Write>(sink: &mut Option<F>, bytes: &[u8]) -> Result<usize, Fai
 {
     match sink {
         Some(file) => match file.write(bytes) {
-            Ok(0) => Err(Failed),
+            Ok(0) | Err(_) => Err(Failed),
             Ok(count) => Ok(count),
-            Err(_) => Err(Failed),
         },
         None => Err(Failed),
     }

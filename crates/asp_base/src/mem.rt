@@ -134,21 +134,23 @@ impl<'a> MemDesk<'a> {
     }
 
     /// A call that reads fails at this place.
-    fn fail_reading(&mut self, place: Place<'a>)
+    fn fail_reading(&mut self, place: Place<'a>) -> Failed
         ensures state { FailsReading (mem_state self.old) (mem_state self.new) (spot place.entry) }
         ensures most { move_limit self.new ≡ move_limit self.old }
     {
         self.read_faults = self.read_faults.saturating_add(1);
         self.read_failed = place;
+        Failed
     }
 
     /// A call that writes fails at this place.
-    fn fail_writing(&mut self, place: Place<'a>)
+    fn fail_writing(&mut self, place: Place<'a>) -> Failed
         ensures state { FailsWriting (mem_state self.old) (mem_state self.new) (spot place.entry) }
         ensures most { move_limit self.new ≡ move_limit self.old }
     {
         self.write_faults = self.write_faults.saturating_add(1);
         self.write_failed = place;
+        Failed
     }
 
     /// Ends a reading.
@@ -322,8 +324,7 @@ impl<'a> Desk<'a> for MemDesk<'a> {
             }
             None => {
                 self.reading = None;
-                self.fail_reading(Place::Name(name));
-                Err(Failed)
+                Err(self.fail_reading(Place::Name(name)))
             }
         }
     }
@@ -338,8 +339,7 @@ impl<'a> Desk<'a> for MemDesk<'a> {
         ensures most { move_limit self.new ≡ move_limit self.old }
     {
         let Some(reading) = self.reading else {
-            self.fail_reading(Place::Nowhere);
-            return Err(Failed);
+            return Err(self.fail_reading(Place::Nowhere));
         };
         if into.is_empty() {
             return Ok(0);
@@ -365,8 +365,7 @@ impl<'a> Desk<'a> for MemDesk<'a> {
             bytes: Vec::new(self.alloc),
         };
         if self.made.insert(0, fresh).is_err() {
-            self.fail_writing(Place::Name(name));
-            return Err(Failed);
+            return Err(self.fail_writing(Place::Name(name)));
         }
         self.writes = true;
         Ok(())
@@ -381,16 +380,14 @@ impl<'a> Desk<'a> for MemDesk<'a> {
         ensures most { move_limit self.new ≡ move_limit self.old }
     {
         let Some(name) = self.open_name() else {
-            self.fail_writing(Place::Nowhere);
-            return Err(Failed);
+            return Err(self.fail_writing(Place::Nowhere));
         };
         if bytes.is_empty() {
             return Ok(0);
         }
         let count = bytes.len().min(self.most);
         if extend_newest(&mut self.made, &bytes[..count]).is_err() {
-            self.fail_writing(Place::Name(name));
-            return Err(Failed);
+            return Err(self.fail_writing(Place::Name(name)));
         }
         Ok(count)
     }
@@ -403,8 +400,7 @@ impl<'a> Desk<'a> for MemDesk<'a> {
         ensures most { move_limit self.new ≡ move_limit self.old }
     {
         if self.open_name().is_none() {
-            self.fail_writing(Place::Nowhere);
-            return Err(Failed);
+            return Err(self.fail_writing(Place::Nowhere));
         }
         self.writes = false;
         Ok(())
@@ -419,8 +415,7 @@ impl<'a> Desk<'a> for MemDesk<'a> {
         ensures most { move_limit self.new ≡ move_limit self.old }
     {
         if self.said.extend_from_slice(bytes).is_err() {
-            self.fail_writing(Place::Output);
-            return Err(Failed);
+            return Err(self.fail_writing(Place::Output));
         }
         Ok(())
     }

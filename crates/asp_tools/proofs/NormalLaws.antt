@@ -1,9 +1,8 @@
 -- What `check` says of a program that stands for another, and which programs smodels text has.
-use Rattle.std.proofs.Common.{◌≡◌, refl, sym, ◌∙◌, ap, ap₂, subst, ℕ, suc, ◌+◌, ◌≤◌, ◌==◌, ◌^◌, Bool, true, false, ◌&&◌, ◌||◌, cond, List, [], ◌∷◌, length, Result, Ok, Err, IfOk, pos, arith}
+use Rattle.std.proofs.Common.{◌≡◌, refl, sym, ◌∙◌, ap, ap₂, subst, ℕ, suc, ◌+◌, ◌≤◌, ◌^◌, Bool, true, false, ◌&&◌, List, [], ◌∷◌, length, Result, Ok, Err, IfOk, pos, arith}
 use Rattle.std.specs.Prelude.{int_le, if◌then◌else◌}
 use mathlib.Core.Path.{fun_ext}
 use Rattle.std.specs.List.{filter, list_all, AllByRecursion, sum_by}
-use Rattle.std.proofs.lemmas.Bool.{eqb-true}
 use Rattle.std.proofs.lemmas.List.Sums.{sum_by-cons}
 use Rattle.asp_base.specs.Sets.{Set, members, cut, Same, Within}
 use Rattle.asp_base.proofs.Each.{each-append}
@@ -24,6 +23,7 @@ use Rattle.ground_program.specs.declared.program.Rule.{Rule}
 use Rattle.ground_program.specs.declared.program.Show.{Show}
 use Rattle.ground_program.proofs.Compose.{Faithful-compose}
 use Rattle.ground_program.proofs.FactLaws.{Stable-among}
+use Rattle.ground_program.proofs.Plain.{members-filtered}
 use Rattle.smodels_format.specs.Lowering.{lowered, rule_draws, rules_lowered, show_rules, is_single, after_rules, first_index}
 use Rattle.smodels_format.specs.Writable.{has_none, is_writable_name}
 use Rattle.normalize.specs.Kept.{SameRest, room_limit, with_facts}
@@ -39,36 +39,13 @@ use Rattle.asp_tools.specs.declared.command.TextFormat.TheVariants.{Aspif, Smode
 use Rattle.asp_tools.specs.Sayings.{stable_text}
 use Rattle.asp_tools.specs.declared.answer.Answer.TheVariants as answers
 
--- ---- the numbers of a list that are in a set
-
-kept : (t b : Bool) (X : Set) (x a : ℕ) (xs : List ℕ) → (x == a) ≡ b → X x ≡ t
-    → members (filter X xs) a ≡ (X a && members xs a)
-    → members (cond t (x ∷ filter X xs) (filter X xs)) a ≡ (X a && ((x == a) || members xs a))
-kept true true X x a xs e f h =
-    ap (λ c. c || members (filter X xs) a) e
-    ∙ sym (ap₂ (λ c d. c && (d || members xs a)) (ap X (sym (eqb-true x a e)) ∙ f) e)
-kept false true X x a xs e f h =
-    h ∙ (ap (λ c. c && members xs a) (ap X (sym (eqb-true x a e)) ∙ f)
-    ∙ sym (ap₂ (λ c d. c && (d || members xs a)) (ap X (sym (eqb-true x a e)) ∙ f) e))
-kept true false X x a xs e f h =
-    ap (λ c. c || members (filter X xs) a) e ∙ (h ∙ sym (ap (λ c. X a && (c || members xs a)) e))
-kept false false X x a xs e f h = h ∙ sym (ap (λ c. X a && (c || members xs a)) e)
-
-members-filter : (X : Set) (xs : List ℕ) (a : ℕ) → members (filter X xs) a ≡ (X a && members xs a)
-members-filter X [] a = nothing (X a)
-  where
-    nothing : (t : Bool) → false ≡ (t && false)
-    nothing true = refl
-    nothing false = refl
-members-filter X (x ∷ xs) a = kept (X x) (x == a) X x a xs refl refl (members-filter X xs a)
-
 -- ---- a set that is checked, and its cut
 
 pub checks-cut : (P N : Ground) (atoms said : List ℕ) → Faithful P N → Checks N atoms answers.Done said
     → Checks P (filter (members P.atoms) atoms) answers.Done said
 checks-cut P N atoms said f h =
     subst (λ X. Stable P X × (said ≡ stable_text (visible P X) (cost P X)))
-    (sym (fun_ext (members-filter (members P.atoms) atoms))) (
+    (sym (fun_ext (members-filtered (members P.atoms) atoms))) (
       f.covers.stable (members atoms) h.0,
       h.1 ∙ (ap (λ ns. stable_text ns (cost N (members atoms))) (f.covers.names (members atoms) h.0)
           ∙ ap (stable_text (visible P (cut P.atoms (members atoms)))) (f.covers.costs (members atoms) h.0)),
@@ -76,7 +53,7 @@ checks-cut P N atoms said f h =
 
 inside : (X : Set) (xs : List ℕ) → ((a : ℕ) → X a ≡ true → members xs a ≡ true)
     → members (filter X xs) ≡ X
-inside X xs w = fun_ext (λ a. members-filter X xs a ∙ go (X a) (members xs a) (w a))
+inside X xs w = fun_ext (λ a. members-filtered X xs a ∙ go (X a) (members xs a) (w a))
   where
     go : (s t : Bool) → (s ≡ true → t ≡ true) → (s && t) ≡ s
     go true t h = h refl

@@ -27,7 +27,7 @@ use Rattle.statement_fields.specs.Fields.{word}
 use Rattle.statement_fields.specs.FieldWords.{literal_words, item_words, spaced_before}
 use Rattle.statement_fields.proofs.FieldLines.{AreWords, atom-is_word, weight-is_word, priority-is_word, atom-most, literals-are_words, items-are_words, show-line}
 use Rattle.statement_fields.proofs.FieldText.{word-read}
-use Rattle.statement_fields.proofs.LineSteps.{Adding, named-line, line-front, read_from, steps, number_behind, lines-read}
+use Rattle.statement_fields.proofs.LineSteps.{Adding, named-line, line-front, read_from, steps, number_behind, lines-read, rules-steps}
 use Rattle.aspif_format.specs.Read.{is_natural, tag, revision, header, statements, from_lines, built, aspif_of}
 use Rattle.aspif_format.specs.Written.{head_words, body_words, rule_line, level_line, level_lines, show_line, edge_line, required_line, required_lines, external_line, idle_atoms, parts, aspif_text}
 use Rattle.aspif_format.proofs.PartLaws.{joined, joined-parts, each-part}
@@ -93,10 +93,6 @@ module _ (last : ℕ) where
   external-adding a h = words-adding (codes "5") (decimal a ∷ codes "2" ∷ []) (with_false a) refl (atom-is_word a h, (refl, tt)) (external-says a h)
 
 -- ---- what many lines add
-
-rules-steps : (rules : List Rule) (d : Draft) → steps with_rule rules d ≡ record d { rules = d.rules ++ rules }
-rules-steps [] d = ap (λ (xs : List Rule). record d { rules = xs }) (sym (append-nil d.rules))
-rules-steps (x ∷ xs) d = rules-steps xs (with_rule x d) ∙ ap (λ (ys : List Rule). record d { rules = ys }) (append_assoc d.rules (x ∷ []) xs)
 
 levels-steps : (levels : List Level) (d : Draft) → steps with_level levels d ≡ record d { levels = d.levels ++ levels }
 levels-steps [] d = ap (λ (xs : List Level). record d { levels = xs }) (sym (append-nil d.levels))

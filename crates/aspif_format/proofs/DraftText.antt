@@ -2,11 +2,10 @@
 use Rattle.std.proofs.Common.{◌≡◌, refl, sym, ◌∙◌, ap, ℕ, ◌^◌, ◌==◌, Bool, true, false, cond, not, ◌&&◌, ◌||◌, List, [], ◌∷◌, ◌++◌, map, inl, inr, append_assoc, append-nil}
 use Rattle.std.specs.Prelude.{pos, ◌⊎◌}
 use Rattle.std.specs.List.{AllByRecursion, list_any, flat_map, filter}
-use Rattle.std.proofs.lemmas.Bool.{cond_both, eqb-true}
+use Rattle.std.proofs.lemmas.Bool.{cond_both}
 use Rattle.asp_base.specs.Literal.{Literal, atom_of}
 use Rattle.std.proofs.lemmas.List.Concat.{flat_map-append}
 use Rattle.std.proofs.lemmas.List.Folds.{flat_map-map}
-use Rattle.std.proofs.lemmas.Map.Views.{any-filter_same}
 use Rattle.asp_base.specs.Sets.{members}
 use Rattle.asp_base.proofs.Each.{each-append, each-flat_map, each-map, each-member, each-weaker}
 use Rattle.ground_program.specs.Ground.{Ground}
@@ -22,6 +21,7 @@ use Rattle.ground_program.specs.declared.program.Rule.{Rule}
 use Rattle.ground_program.specs.declared.program.Level.{Level}
 use Rattle.ground_program.specs.declared.builder.External.{External}
 use Rattle.ground_program.specs.declared.builder.External.TheVariants.{False, Release}
+use Rattle.ground_program.proofs.Plain.{members-filtered}
 use Rattle.rising_numbers.proofs.RisingLaws.{Ascends-from_rises, members-append, rising-is}
 use Rattle.aspif_format.specs.Written.{idle_atoms, parts}
 use Rattle.aspif_format.proofs.PartLaws.{map-joined, joined-parts}
@@ -130,9 +130,6 @@ parts-among P h =
 
 -- ---- and every one of the program's occurs or is idle
 
-members-filter : (p : ℕ → Bool) (xs : List ℕ) (a : ℕ) → members (filter p xs) a ≡ (p a && members xs a)
-members-filter p xs a = any-filter_same (λ x. x == a) p (p a) (λ x e. ap p (eqb-true x a e)) xs
-
 -- what is among all, and what of all is not there, make up all
 all-of : (b c : Bool) → (b ≡ true → c ≡ true) → (b || (not b && c)) ≡ c
 all-of true c h = sym (h refl)
@@ -145,7 +142,7 @@ atoms-are P h =
     ap rising (atoms_of-written P)
     ∙ sym (rising-is (occur ++ filter other P.atoms) P.atoms (Ascends-from_rises 0 P.atoms h.atoms_rise)
     (λ a. sym (members-append occur (filter other P.atoms) a
-    ∙ ap (λ m. members occur a || m) (members-filter other P.atoms a)
+    ∙ ap (λ m. members occur a || m) (members-filtered other P.atoms a)
     ∙ all-of (members occur a) (members P.atoms a) (λ m. each-member (Among P.atoms) occur a (parts-among P h) m))))
 
 pub program-of_written : (P : Ground) → IsProgram P → program_of (written_draft P) ≡ P

@@ -1,29 +1,17 @@
 -- Small texts with their programs and first faults, by computation.
-use Rattle.std.proofs.Common.{◌≡◌, refl, ℕ, List, [], ◌∷◌, Result, Ok, Err, codes}
-use Rattle.asp_base.specs.Literal.{Literal, Pos, Neg}
-use Rattle.ground_program.specs.Ground.{Ground}
-use Rattle.asp_base.specs.Faults.{Fault}
+use Rattle.std.proofs.Common.{◌≡◌, refl, [], ◌∷◌, Ok, codes}
+use Rattle.asp_base.specs.Literal.{Pos, Neg}
 use Rattle.ground_program.specs.declared.program.Head.TheVariants.{One, Choice}
 use Rattle.ground_program.specs.declared.program.Body.TheVariants.{All}
-use Rattle.ground_program.specs.declared.program.Rule.{Rule}
-use Rattle.ground_program.specs.declared.reading.ReadKind.{ReadKind}
 use Rattle.ground_program.specs.declared.reading.ReadKind.TheVariants as kinds
+use Rattle.ground_program.proofs.Rows.{normal, of_rules, at}
 use Rattle.aspif_format.specs.Read.{aspif_of}
 
-abbrev of_rules : List ℕ → List Rule → Ground
-of_rules atoms rules = record { atoms = atoms; rules = rules; required = []; edges = []; levels = []; shows = [] }
-
-abbrev rule : ℕ → List Literal → Rule
-rule a lits = record { head = One a; body = All lits }
-
-abbrev at : ℕ → ReadKind → Result Ground (Fault ReadKind)
-at line kind = Err (record { line = line; kind = kind })
-
-even : aspif_of (codes "asp 1 0 0\n1 0 1 1 0 1 -2\n1 0 1 2 0 1 -1\n0\n") ≡ Ok (of_rules (1 ∷ 2 ∷ []) (rule 1 (Neg 2 ∷ []) ∷ rule 2 (Neg 1 ∷ []) ∷ []))
+even : aspif_of (codes "asp 1 0 0\n1 0 1 1 0 1 -2\n1 0 1 2 0 1 -1\n0\n") ≡ Ok (of_rules (1 ∷ 2 ∷ []) (normal 1 (Neg 2 ∷ []) ∷ normal 2 (Neg 1 ∷ []) ∷ []))
 even = refl
 
 -- blanks, blank lines, line ends and leading zeros
-loose : aspif_of (codes "\n \tasp 1 0 0\r\n\n1  0 01 1 0 \t1 -02 \r\n1 0 1 2 0 1 -1\n\n0\n \n") ≡ Ok (of_rules (1 ∷ 2 ∷ []) (rule 1 (Neg 2 ∷ []) ∷ rule 2 (Neg 1 ∷ []) ∷ []))
+loose : aspif_of (codes "\n \tasp 1 0 0\r\n\n1  0 01 1 0 \t1 -02 \r\n1 0 1 2 0 1 -1\n\n0\n \n") ≡ Ok (of_rules (1 ∷ 2 ∷ []) (normal 1 (Neg 2 ∷ []) ∷ normal 2 (Neg 1 ∷ []) ∷ []))
 loose = refl
 
 one_show : aspif_of (codes "asp 1 0 0\n4 5 a b)c 1 1\n0\n")
@@ -73,7 +61,7 @@ externals = refl
 no_rules : aspif_of (codes "asp 1 0 0\n0\n") ≡ Ok (of_rules [] [])
 no_rules = refl
 
-greatest : aspif_of (codes "asp 1 0 0\n1 0 1 7 0 1 -1073741824\n0\n") ≡ Ok (of_rules (7 ∷ 1073741824 ∷ []) (rule 7 (Neg 1073741824 ∷ []) ∷ []))
+greatest : aspif_of (codes "asp 1 0 0\n1 0 1 7 0 1 -1073741824\n0\n") ≡ Ok (of_rules (7 ∷ 1073741824 ∷ []) (normal 7 (Neg 1073741824 ∷ []) ∷ []))
 greatest = refl
 
 -- a choice without atoms is a choice

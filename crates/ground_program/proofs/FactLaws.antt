@@ -6,6 +6,7 @@ use Rattle.ground_program.specs.Ground.{Ground}
 use Rattle.asp_base.specs.Sets.{Set, members, Within, none}
 use Rattle.ground_program.specs.Facts.{IsProgram, RuleFits, BodyFits, HeadFits, Among}
 use Rattle.ground_program.specs.Closed.{HasWeights, Weighed}
+use Rattle.ground_program.specs.Normal.{IsNormalBody, AreNormal}
 use Rattle.ground_program.specs.Stable.{head_has, step, rounds, least, Founded, Stable}
 use Rattle.ground_program.specs.declared.program.Head.{Head}
 use Rattle.ground_program.specs.declared.program.Head.TheVariants.{Nothing, One, Choice}
@@ -14,9 +15,16 @@ use Rattle.ground_program.specs.declared.program.Body.TheVariants.{All, Sum}
 use Rattle.ground_program.specs.declared.program.Rule.{Rule}
 use Rattle.asp_base.proofs.Each.{each-member, each-weaker}
 
-body-weights : (atoms : List ℕ) (body : Body) → BodyFits (Among atoms) body → HasWeights body
+pub body-weights : (atoms : List ℕ) (body : Body) → BodyFits (Among atoms) body → HasWeights body
 body-weights atoms (All lits) h = tt
 body-weights atoms (Sum bound items) h = each-weaker _ _ (λ item k. k.1.0) items h.2
+
+pub normal-weighed : (rules : List Rule) → AreNormal rules → Weighed rules
+normal-weighed rules n = each-weaker _ _ (λ rule h. go rule.body h.1) rules n
+  where
+    go : (body : Body) → IsNormalBody body → HasWeights body
+    go (All lits) h = tt
+    go (Sum bound items) h = absurd h
 
 pub program-weighed : (P : Ground) → IsProgram P → Weighed P.rules
 program-weighed P f = each-weaker _ _ (λ rule h. body-weights P.atoms rule.body h.1) P.rules f.rules

@@ -12,7 +12,7 @@ use Rattle.rising_numbers.proofs.RisingLaws.{members-append}
 
 -- ---- consecutive numbers
 
-range-has : (n a b : ℕ) → a ≤ b → b < a + n → members (range_with_len a n) b ≡ true
+pub range-has : (n a b : ℕ) → a ≤ b → b < a + n → members (range_with_len a n) b ≡ true
 range-has zero a b l h = absurd (omega arith)
 range-has (suc n) a b l h = ⊎_elim
     (λ e. or_left _ _ (eq-eqb a b e))
@@ -24,7 +24,7 @@ range-lacks zero a b h = refl
 range-lacks (suc n) a b (inl l) = or_from _ _ (ne_eqb a b (λ e. omega arith)) (range-lacks n (a + 1) b (inl (omega arith)))
 range-lacks (suc n) a b (inr l) = or_from _ _ (ne_eqb a b (λ e. omega arith)) (range-lacks n (a + 1) b (inr (omega arith)))
 
-range-more : (n a : ℕ) → range_with_len a (suc n) ≡ range_with_len a n ++ ((a + n) ∷ [])
+pub range-more : (n a : ℕ) → range_with_len a (suc n) ≡ range_with_len a n ++ ((a + n) ∷ [])
 range-more zero a = let same : a ≡ a + 0 = omega arith in ap (λ z. z ∷ []) same
 range-more (suc n) a =
     let same : a + 1 + n ≡ a + suc n = omega arith in

@@ -1,8 +1,9 @@
 -- The least model is the smallest set that the rules close.
-use Rattle.std.proofs.Common.{◌≡◌, refl, sym, ◌∙◌, subst, ℕ, zero, suc, ◌≤◌, ◌<◌, ℤ, pos, ◌+ℤ◌, ◌≤ℤ◌, int_le, Bool, true, false, cond, List, [], ◌∷◌, length, ⊎_elim, inl, inr, ◌⊎◌, arith}
+use Rattle.std.proofs.Common.{◌≡◌, refl, sym, ◌∙◌, subst, ℕ, zero, suc, ◌≤◌, ◌<◌, ℤ, pos, ◌+ℤ◌, ◌≤ℤ◌, int_le, Bool, true, false, cond, ◌||◌, List, [], ◌∷◌, ◌++◌, length, ⊎_elim, inl, inr, ◌⊎◌, arith}
 use Rattle.std.specs.List.{AllByRecursion}
 use Rattle.std.proofs.lemmas.Bool.{and_parts, and_from, or_cases, or_left, or_right, true≢false, cases_lt}
 use Rattle.std.proofs.lemmas.Int.{ints}
+use Rattle.std.proofs.lemmas.List.Folds.{list_any-append}
 use Rattle.asp_base.proofs.Bools.{same_test}
 use Rattle.asp_base.specs.Literal.{Literal, Pos, Neg, literal_holds}
 use Rattle.asp_base.specs.Sets.{Set, none, union, Same, Within}
@@ -13,6 +14,9 @@ use Rattle.ground_program.specs.declared.program.Rule.{Rule}
 use Rattle.ground_program.specs.Closed.{HasWeights, Weighed, Closed}
 use Rattle.ground_program.proofs.Passing.{list_any-weaker, list_all-weaker, passing, passing_le-length, passing-same}
 use Rattle.asp_base.proofs.Each.{each, each-weaker}
+
+pub step-append : (rules more : List Rule) (M X : Set) (a : ℕ) → step (rules ++ more) M X a ≡ (step rules M X a || step more M X a)
+step-append rules more M X a = list_any-append (λ rule. derives rule M X a) rules more
 
 pub literal_holds-mono : (l : Literal) (X Y M : Set) → Within X Y → literal_holds l X M ≡ true → literal_holds l Y M ≡ true
 literal_holds-mono (Pos a) X Y M h e = h a e

@@ -15,4 +15,4 @@ pub mod Passing
 pub mod Plain
 pub mod RadixLaws
 pub mod RoomLaws
-mod Rows
+pub mod Rows

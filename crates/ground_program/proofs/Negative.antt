@@ -6,10 +6,11 @@ use Rattle.std.specs.List.{AllByRecursion}
 use Rattle.asp_base.specs.Literal.{Literal, Pos, Neg, literal_holds, all_hold}
 use Rattle.ground_program.specs.Facts.{IsProgram}
 use Rattle.ground_program.specs.Ground.{Ground}
-use Rattle.ground_program.proofs.FactLaws.{program-weighed}
+use Rattle.ground_program.proofs.FactLaws.{normal-weighed, program-weighed}
 use Rattle.ground_program.proofs.Least.{grown-fixpoint}
 use Rattle.asp_base.specs.Sets.{Set, none, Same}
-use Rattle.ground_program.specs.Stable.{weight_of, holds, head_has, step, rounds, grown, joined, Supported, Stable}
+use Rattle.ground_program.specs.Normal.{AreNormal}
+use Rattle.ground_program.specs.Stable.{weight_of, holds, head_has, step, rounds, least, grown, joined, Founded, Supported, Stable}
 use Rattle.asp_base.specs.Walks.{Acyclic}
 use Rattle.ground_program.specs.Negative.{IsNegative, IsNegativeBody, HasNegativeBodies}
 use Rattle.ground_program.specs.declared.program.Body.{Body}
@@ -59,13 +60,18 @@ Supported-from_Stable P M f s = record {
   keeps = s.keeps;
 }
 
+pub Supported-from_Founded : (P : Ground) (M : Set) → AreNormal P.rules → Founded P M → Supported P M
+Supported-from_Founded P M n f =
+    let same : least P M ≡ M = fun_ext f.least_is in
+    record { step_is = λ a. subst (λ X. step P.rules M X a ≡ X a) same (grown-fixpoint P.rules M (normal-weighed P.rules n) a); keeps = f.keeps }
+
 supported-apart : (P : Ground) (M : Set) → HasNegativeBodies P.rules → Stable P M → Supported P M
 supported-apart P M h s = record { step_is = λ a. sym (grown-apart P.rules M h a) ∙ s.least_is a; keeps = s.keeps }
 
 pub Stable-from_Supported : (P : Ground) (M : Set) → HasNegativeBodies P.rules → Acyclic (joined P.edges M) → Supported P M → Stable P M
 Stable-from_Supported P M h c s = record { least_is = λ a. grown-apart P.rules M h a ∙ s.step_is a; keeps = s.keeps; acyclic = c }
 
-Acyclic-no_edges : (M : Set) → Acyclic (joined [] M)
+pub Acyclic-no_edges : (M : Set) → Acyclic (joined [] M)
 Acyclic-no_edges M node [] walk = true≢false (sym walk)
 Acyclic-no_edges M node (next ∷ rest) walk = true≢false (sym walk.0)
 

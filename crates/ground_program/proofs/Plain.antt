@@ -53,7 +53,7 @@ members-append_left xs ys a h = list_any-append (λ x. x == a) xs ys ∙ or_left
 pub members-append_right : (xs ys : List ℕ) (a : ℕ) → members ys a ≡ true → members (xs ++ ys) a ≡ true
 members-append_right xs ys a h = list_any-append (λ x. x == a) xs ys ∙ or_right _ _ h
 
-head_has-members : (head : Head) (M : Set) (a : ℕ) → head_has head M a ≡ true → members (atoms_of_head head) a ≡ true
+pub head_has-members : (head : Head) (M : Set) (a : ℕ) → head_has head M a ≡ true → members (atoms_of_head head) a ≡ true
 head_has-members Nothing M a e = absurd (true≢false (sym e))
 head_has-members (One b) M a e = or_left _ _ e
 head_has-members (Choice bs) M a e = (and_parts _ _ e).0
@@ -128,13 +128,23 @@ left_out true true n b h i = i
 left_out true false n b h i = i ∙ sym (h refl)
 left_out false m n b h i = i
 
-members-filter : (M : Set) (xs : List ℕ) (a : ℕ) → members (filter M xs) a ≡ (members xs a && M a)
+pub members-filter : (M : Set) (xs : List ℕ) (a : ℕ) → members (filter M xs) a ≡ (members xs a && M a)
 members-filter M [] a = refl
 members-filter M (x ∷ xs) a = go (M x) refl (members-filter M xs a)
   where
     go : (b : Bool) → M x ≡ b → members (filter M xs) a ≡ (members xs a && M a) → members (cond b (x ∷ filter M xs) (filter M xs)) a ≡ (((x == a) || members xs a) && M a)
     go true e i = kept (x == a) (members xs a) _ (M a) (λ k. ap M (sym (eqb-true x a k)) ∙ e) i
     go false e i = left_out (x == a) (members xs a) _ (M a) (λ k. ap M (sym (eqb-true x a k)) ∙ e) i
+
+-- the same with the test first
+pub members-filtered : (M : Set) (xs : List ℕ) (a : ℕ) → members (filter M xs) a ≡ (M a && members xs a)
+members-filtered M xs a = members-filter M xs a ∙ go (members xs a) (M a)
+  where
+    go : (m b : Bool) → (m && b) ≡ (b && m)
+    go true true = refl
+    go true false = refl
+    go false true = refl
+    go false false = refl
 
 filter-same : (M : Set) (xs : List ℕ) → Within M (members xs) → Same (members (filter M xs)) M
 filter-same M xs h a = members-filter M xs a ∙ go (members xs a) (M a) (h a)

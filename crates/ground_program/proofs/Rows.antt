@@ -1,9 +1,10 @@
 -- Small programs with their founded sets, costs and names, by computation.
-use Rattle.std.proofs.Common.{◌≡◌, refl, sym, ℕ, ℤ, pos, negsuc, List, [], ◌∷◌, arith}
+use Rattle.std.proofs.Common.{◌≡◌, refl, sym, ℕ, ℤ, pos, negsuc, List, [], ◌∷◌, Result, Err, arith}
 use Rattle.std.specs.Prelude.{Some, None}
 use Rattle.std.proofs.lemmas.Bool.{true≢false}
 use Rattle.asp_base.specs.Literal.{Literal, Pos, Neg}
 use Rattle.asp_base.specs.Sets.{Set, members}
+use Rattle.asp_base.specs.Faults.{Fault}
 use Rattle.ground_program.specs.Facts.{IsProgram}
 use Rattle.ground_program.specs.Digits.{digits}
 use Rattle.ground_program.specs.Ground.{Ground}
@@ -13,19 +14,24 @@ use Rattle.ground_program.specs.Stable.{cost, visible, Founded, Stable}
 use Rattle.ground_program.specs.declared.program.Head.TheVariants.{Nothing, One, Choice}
 use Rattle.ground_program.specs.declared.program.Body.TheVariants.{All, Sum}
 use Rattle.ground_program.specs.declared.program.Rule.{Rule}
+use Rattle.ground_program.specs.declared.reading.ReadKind.{ReadKind}
 use Rattle.ground_program.proofs.Plain.{founded_sets, founded_sets-has}
 
-abbrev normal : ℕ → List Literal → Rule
+abbrev pub normal : ℕ → List Literal → Rule
 normal a lits = record { head = One a; body = All lits }
 
 abbrev choice : List ℕ → Rule
 choice as_ = record { head = Choice as_; body = All [] }
 
-abbrev constraint : List Literal → Rule
+abbrev pub constraint : List Literal → Rule
 constraint lits = record { head = Nothing; body = All lits }
 
-abbrev of_rules : List ℕ → List Rule → Ground
+abbrev pub of_rules : List ℕ → List Rule → Ground
 of_rules atoms rules = record { atoms = atoms; rules = rules; required = []; edges = []; levels = []; shows = [] }
+
+-- a refusal of a text
+abbrev pub at : ℕ → ReadKind → Result Ground (Fault ReadKind)
+at line kind = Err (record { line = line; kind = kind })
 
 -- a :- not b. b :- not a.
 abbrev even_loop : Ground

@@ -1,11 +1,12 @@
 //! Ground programs: rules, required literals, edges, levels and shows.
 
-ghost use Rattle.std.specs.Prelude.{◌≤◌, ◌^◌, length};
+ghost use Rattle.std.specs.Prelude.{◌≡◌, ◌≤◌, ◌^◌, length};
 ghost use Rattle.ground_program.specs.Facts.{IsProgram};
+ghost use Rattle.ground_program.specs.Normal.{literals_of};
 
 use crate::atoms::Atoms;
 use crate::lists::{AtomList, ItemList, LitList};
-use asp_base::{ByteList, VecList};
+use asp_base::{ByteList, Lit, VecList};
 use std::marker::Model;
 
 /// What a rule derives: nothing, one atom, or any of the atoms of a choice.
@@ -21,6 +22,16 @@ pub enum Head {
 pub enum Body {
     All(LitList),
     Sum { bound: i64, items: ItemList },
+}
+
+/// The literals of a body of literals; none of a body with weights.
+pub fn literals(body: &Body) -> &[Lit]
+    ensures { result.now ≡ literals_of body.now }
+{
+    match body {
+        Body::All(lits) => lits.as_slice(),
+        Body::Sum { .. } => &[],
+    }
 }
 
 /// A rule. A rule without head may not have its body hold.

@@ -13,14 +13,14 @@ use Rattle.clause_store.specs.Models.{all_true, is_true, clause_true, clauses_tr
 use Rattle.clause_store.specs.Gates.{values_at}
 use Rattle.clause_store.specs.Facts.{IsOver}
 use Rattle.clause_store.specs.Stored.{Stored, with_clause, conjunction, after_conjunction}
-use Rattle.clause_store.proofs.GateLaws.{Conjunction, conjunction-is, is_true-agree, negation-over, literals-up, IsOver-up}
+use Rattle.clause_store.proofs.GateLaws.{at_least, Conjunction, conjunction-is, is_true-agree, negation-over, literals-up, IsOver-up}
 use Rattle.asp_base.proofs.LiteralLaws.{literal_holds-negation}
 use Rattle.asp_base.proofs.Each.{each-append}
 use Rattle.clause_store.proofs.TableGates.{values-agree}
 use Rattle.clause_store.proofs.AddLaws.{Adds-nothing, Adds-more, Adds-compose, conjunction-adds}
 use Rattle.completion.specs.Completion.{is_empty}
 use Rattle.completion.proofs.CompletionLaws.{body_true}
-use Rattle.completion.proofs.BodyLaws.{IsOverIfAny}
+use Rattle.completion.proofs.BodyLaws.{IsOverIfAny, IsOverIfAny-up}
 use Rattle.digit_gates.specs.Digits.{number, number_at, predecessor}
 use Rattle.digit_gates.specs.DigitGates.{less_vars}
 use Rattle.level_ranking.specs.Encoding.{Row, body_list, negated_body, after_compared, compared, pairs_below, support_inputs, after_support, support, after_supports, supports_in, after_supported, pairs_near, after_near, after_nears}
@@ -90,12 +90,8 @@ spread : (b x y : Bool) → ((not b || x) && (not b || y)) ≡ (not b || (x && y
 spread true x y = refl
 spread false x y = refl
 
-always : (b : Bool) → true ≡ (not b || true)
-always true = refl
-always false = refl
-
 zeros_say : (body : Option Literal) (lits : List Literal) (A : Set) → clauses_true (map (λ l. negated_body body ++ (negation l ∷ [])) lits) A ≡ (not (body_true body A) || list_all (λ l. not (is_true l A)) lits)
-zeros_say body [] A = always (body_true body A)
+zeros_say body [] A = at_least (body_true body A)
 zeros_say body (l ∷ lits) A =
     ap₂ ◌&&◌ (list_any-append (λ k. is_true k A) (negated_body body) (negation l ∷ []) ∙ ap₂ ◌||◌ (negated-says body A) (or_false _ ∙ literal_holds-negation l A)) (zeros_say body lits A)
     ∙ spread (body_true body A) (not (is_true l A)) (list_all (λ k. not (is_true k A)) lits)
@@ -121,10 +117,6 @@ pub record HasDigits (n0 w : ℕ) (lits : List Literal) : Type 0 where
 pub record IsRow (n0 w : ℕ) (digits : ℕ → List Literal) (row : Row) : Type 0 where
   pub body : IsOverIfAny n0 row.body
   pub inside : AllByRecursion (λ b. HasDigits n0 w (digits b)) row.inside
-
-pub IsOverIfAny-up : (m n : ℕ) → m ≤ n → (body : Option Literal) → IsOverIfAny m body → IsOverIfAny n body
-IsOverIfAny-up m n h None o = tt
-IsOverIfAny-up m n h (Some l) o = IsOver-up m n h l o
 
 -- the tests that the clauses of an atom with the digits r say
 module _ (w : ℕ) (digits : ℕ → List Literal) (r : List Literal) where
@@ -252,7 +244,7 @@ module _ (n0 w : ℕ) (wide : 0 < w) (digits : ℕ → List Literal) (r p : List
           limits-more n0 (support_vars w rows + 0) (support_clauses w rows + 1) (support_vars w rows) (support_clauses w rows + 1)
           (λ A. true && supported_test w digits r v rows A) (supported_test w digits r v rows) s (with_clause (Neg v ∷ ls) t) (omega arith) (omega arith) (λ A. refl)
           (limits-compose n0 (support_vars w rows) (support_clauses w rows) 0 1 (λ A. true) (supported_test w digits r v rows) s t (with_clause (Neg v ∷ ls) t)
-          (limits-adds n0 (support_vars w rows) (support_clauses w rows) s t h x i.adds)
+          (limits-adds n0 (support_vars w rows) (support_clauses w rows) s t h i.adds)
           (limits-clauses n0 1 (supported_test w digits r v rows) t ((Neg v ∷ ls) ∷ []) (omega arith) (i.adds.sound) (((low, omega arith), i.over), tt) (omega arith)
           (λ A B k. supported_test-agree v high rows o A B k)
           (λ A k. and_true _ ∙ (ap (λ b. not (A v) || b) (i.says A k) ∙ sym (ap (λ b. b || (not (A v) || list_any (supports_test w digits r A) rows)) e)))))
@@ -283,7 +275,7 @@ module _ (n0 w : ℕ) (wide : 0 < w) (digits : ℕ → List Literal) (r p : List
       let k : ℕ = length (b0 ∷ bs) in
       limits-more n0 (less_vars w * k + 0) (7 * w * k + 1) (less_vars w * k) (7 * w * k + (w + 1)) (λ A. true && test A) test s (with_clause clause t) (omega arith) (omega arith) (λ A. refl)
       (limits-compose n0 (less_vars w * k) (7 * w * k) 0 1 (λ A. true) test s t (with_clause clause t)
-      (limits-adds n0 (less_vars w * k) (7 * w * k) s t h x (subst (λ n. Adds (less_vars w * n) (7 * w * n) s t) pairs_count c.adds))
+      (limits-adds n0 (less_vars w * k) (7 * w * k) s t h (subst (λ n. Adds (less_vars w * n) (7 * w * n) s t) pairs_count c.adds))
       (limits-clauses n0 1 test t (clause ∷ []) (omega arith) (c.adds.sound)
       (each-append (IsOver t.vars) (negated_body body) (compared pairs s) (negated-over t.vars body (IsOverIfAny-up n0 t.vars (omega arith) body b)) c.over, tt) (omega arith)
       (λ A B e. ap₂ (λ y z. not y || z) (body-agree n0 A B e body b) (near_test-agree A B e (b0 ∷ bs) o))
@@ -297,6 +289,6 @@ module _ (n0 w : ℕ) (wide : 0 < w) (digits : ℕ → List Literal) (r p : List
   nears-limits (row ∷ rows) s o h x q lower =
       let t : Stored = after_near r p digits row.body row.inside s in
       let i : Limits n0 (less_vars w * length row.inside) (7 * w * length row.inside + (w + 1)) (λ A. not (body_true row.body A) || near_test w digits r A row.inside) s t = near-limits row.body row.inside s o.0.body o.0.inside h x q lower in
-      let more : s.vars ≤ t.vars = i.up in
+      let more : s.vars ≤ t.vars = i.grows.up in
       limits-compose n0 (less_vars w * length row.inside) (7 * w * length row.inside + (w + 1)) (near_vars w rows) (near_clauses w rows) _ (nears_test w digits r rows) s t (after_nears r p digits rows t) i
-      (nears-limits rows t o.1 (omega arith) i.sound (literals-up s.vars t.vars more p q) (λ A e. lower A (i.keeps A e)))
+      (nears-limits rows t o.1 (omega arith) i.grows.sound (literals-up s.vars t.vars more p q) (λ A e. lower A (i.grows.keeps A e)))

@@ -22,7 +22,8 @@ use Rattle.level_ranking.specs.Ranked.{part_bound, AddsByParts}
 use Rattle.level_ranking.specs.Ranking.{is_head_in, inner}
 use Rattle.level_ranking.proofs.CountLaws.{mul-mono, total, total-add, total-zero, total-le, one-at}
 use Rattle.level_ranking.proofs.NewDigits.{digits_vars}
-use Rattle.level_ranking.proofs.RankedStore.{made, limits, rises-filter}
+use Rattle.level_ranking.proofs.RankedStore.{made, limits}
+use Rattle.rising_numbers.proofs.RisingLaws.{rises-filter}
 
 -- ---- the rules of an atom
 
@@ -182,8 +183,8 @@ module _ (P : Ground) (program : IsProgram P) (normal : AreNormal P.rules) (part
 
   pub adds-by_parts : AddsByParts P part parts (completed P) (with_rankings P part parts)
   adds-by_parts =
-      let m : (with_digits P part parts).vars ≤ (completed P).vars + digits_vars (place P.atoms) (width_of P part parts) (ranked_atoms P part parts) = (made P program normal part parts are).vars in
-      let l : (with_rankings P part parts).vars ≤ (with_digits P part parts).vars + parts_vars P part parts parts = (limits P program normal part parts are).vars in
+      let m : (with_digits P part parts).vars ≤ (completed P).vars + digits_vars (place P.atoms) (width_of P part parts) (ranked_atoms P part parts) = (made P program normal part parts are).grows.vars in
+      let l : (with_rankings P part parts).vars ≤ (with_digits P part parts).vars + parts_vars P part parts parts = (limits P program normal part parts are).grows.vars in
       let b : parts_vars P part parts parts + total (λ c. part_width P part parts c * length (atoms_of_part part c P.atoms)) parts ≤ sum_by (part_bound P part parts) parts = parts-by parts in
       let w : digits_vars (place P.atoms) (width_of P part parts) (ranked_atoms P part parts) ≤ total (λ c. part_width P part parts c * length (atoms_of_part part c P.atoms)) parts = widths in
       omega arith

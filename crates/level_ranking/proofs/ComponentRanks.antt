@@ -1,8 +1,8 @@
 -- Numbers that meet the conditions on all cyclic components, for a supported set: there are some just where the set is
 -- founded, and they are the ranks.
-use Rattle.std.proofs.Common.{◌≡◌, refl, sym, ◌∙◌, ap, ap₂, subst, ℕ, ◌≤◌, ◌<◌, ◌^◌, ◌==◌, Bool, true, false, cond, not, ◌&&◌, ◌||◌, ltb, leb, List, [], ◌∷◌, filter, length, ⊎_elim, inl, inr, ◌⊎◌, arith}
+use Rattle.std.proofs.Common.{◌≡◌, refl, sym, ◌∙◌, ap, ap₂, subst, ℕ, ◌≤◌, ◌<◌, ◌^◌, ◌==◌, Bool, true, false, cond, not, ◌&&◌, ◌||◌, ltb, leb, List, [], ◌∷◌, length, ⊎_elim, inl, inr, ◌⊎◌, arith}
 use Rattle.std.specs.List.{list_any, list_all, AllByRecursion}
-use Rattle.std.proofs.lemmas.Bool.{and_parts, and_from, or_cases, or_left, true≢false, cases_Bool, cases_lt, eqb-true, eq-eqb, cond-false}
+use Rattle.std.proofs.lemmas.Bool.{and_parts, and_from, or_cases, true≢false, cases_Bool, cases_lt, eqb-true, eq-eqb, cond-false}
 use Rattle.asp_base.specs.Literal.{Literal, Pos, Neg}
 use Rattle.asp_base.specs.Sets.{Set, members, Within}
 use Rattle.asp_base.specs.Walks.{Reaches}
@@ -14,6 +14,8 @@ use Rattle.ground_program.specs.declared.program.Body.{Body}
 use Rattle.ground_program.specs.declared.program.Body.TheVariants.{All, Sum}
 use Rattle.ground_program.specs.declared.program.Rule.{Rule}
 use Rattle.ground_program.proofs.FactLaws.{step-among}
+use Rattle.ground_program.proofs.Negative.{Supported-from_Founded}
+use Rattle.ground_program.proofs.Plain.{members-filter}
 use Rattle.ground_program.specs.Normal.{AreNormal}
 use Rattle.digit_gates.specs.Digits.{predecessor}
 use Rattle.ground_program.specs.Dependencies.{positives_of_body, depends}
@@ -28,7 +30,7 @@ use Rattle.level_ranking.specs.Ranked.{rank_in_part}
 use Rattle.level_ranking.proofs.ConditionLaws.{list_all-once, list_all-same, list_any-same, ranking-from_conditions, conditions-from_ranking}
 use Rattle.level_ranking.proofs.RankLaws.{rankings-same}
 use Rattle.level_ranking.proofs.RankExists.{rank-bound, rank-is_ranking}
-use Rattle.level_ranking.proofs.FoundedByRanks.{Founded-from_rankings, Supported-from_Founded}
+use Rattle.level_ranking.proofs.FoundedByRanks.{Founded-from_rankings}
 
 -- ---- numbers that agree on the component meet the same conditions
 
@@ -75,21 +77,6 @@ module _ (S : Set) (w : ℕ) (rules : List Rule) (M : Set) (r q : ℕ → ℕ) (
   }
 
 -- ---- the atoms of a component
-
-pub members-filter : (p : ℕ → Bool) (xs : List ℕ) (a : ℕ) → members (filter p xs) a ≡ (members xs a && p a)
-members-filter p [] a = refl
-members-filter p (x ∷ xs) a = go (p x) refl (x == a) refl (members-filter p xs a)
-  where
-    go : (t : Bool) → p x ≡ t → (e : Bool) → (x == a) ≡ e → members (filter p xs) a ≡ (members xs a && p a)
-        → members (cond t (x ∷ filter p xs) (filter p xs)) a ≡ ((e || members xs a) && p a)
-    go true h true e r = or_left _ _ e ∙ sym (ap p (sym (eqb-true x a e)) ∙ h)
-    go true h false e r = ap (λ b. b || members (filter p xs) a) e ∙ r
-    go false h true e r = r ∙ (ap (λ b. members xs a && b) (ap p (sym (eqb-true x a e)) ∙ h) ∙ (off (members xs a) ∙ sym (ap p (sym (eqb-true x a e)) ∙ h)))
-      where
-        off : (b : Bool) → (b && false) ≡ false
-        off true = refl
-        off false = refl
-    go false h false e r = r
 
 depends-among : (atoms : List ℕ) (rules : List Rule) (a b : ℕ) → AllByRecursion (RuleFits (Among atoms)) rules → depends rules a b ≡ true → (members atoms a ≡ true) × (members atoms b ≡ true)
 depends-among atoms [] a b h d = absurd (true≢false (sym d))

@@ -2,7 +2,7 @@
 use Rattle.std.proofs.Common.{◌≡◌, refl, sym, ◌∙◌, ap, ap₂, ℕ, zero, suc, ◌≤◌, ◌<◌, ◌^◌, ◌==◌, Bool, true, false, cond, not, ◌&&◌, ◌||◌, ltb, leb, List, [], ◌∷◌, filter, ⊎_elim, arith}
 use Rattle.std.specs.List.{list_any, list_all}
 use Rattle.std.proofs.lemmas.Bool.{and_parts, and_from, or_left, or_right, true≢false, ltb-true, ltb-false, lt-ltb, le-ltb, leb-true, le-leb, cases_Bool, eqb-true}
-use Rattle.asp_base.specs.Sets.{Set}
+use Rattle.asp_base.specs.Sets.{Set, once}
 use Rattle.ground_program.specs.Closed.{Closed}
 use Rattle.ground_program.specs.Stable.{holds, head_has, step}
 use Rattle.ground_program.specs.declared.program.Body.{Body}
@@ -11,7 +11,7 @@ use Rattle.ground_program.specs.declared.program.Rule.{Rule}
 use Rattle.ground_program.proofs.Passing.{list_any-weaker}
 use Rattle.asp_base.proofs.Each.{each}
 use Rattle.digit_gates.specs.Digits.{predecessor}
-use Rattle.level_ranking.specs.Encoding.{body_in, once, inside}
+use Rattle.level_ranking.specs.Encoding.{body_in, inside}
 use Rattle.asp_base.proofs.Bools.{same_test}
 use Rattle.level_ranking.proofs.Equations.{gives, is_below, near_one, is_near, IsRanking}
 use Rattle.level_ranking.proofs.Conditions.{goes_below, comes_near, is_empty_body, is_given, supports, near_one_of, keeps_near, Meets}

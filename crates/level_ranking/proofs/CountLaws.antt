@@ -5,7 +5,7 @@ use Rattle.std.proofs.lemmas.List.Sums.{sum_by-cons}
 use Rattle.std.specs.List.{sum_by}
 use Rattle.std.proofs.lemmas.Bool.{eqb-true}
 use Rattle.asp_base.specs.Literal.{Literal, Pos, Neg}
-use Rattle.asp_base.specs.Sets.{Set, members}
+use Rattle.asp_base.specs.Sets.{Set, members, once}
 use Rattle.ground_program.specs.Facts.{IsProgram}
 use Rattle.rising_numbers.specs.Rising.{RisesFrom, place}
 use Rattle.ground_program.specs.Ground.{Ground}
@@ -17,7 +17,7 @@ use Rattle.ground_program.specs.declared.program.Body.TheVariants.{All, Sum}
 use Rattle.ground_program.specs.declared.program.Rule.{Rule}
 use Rattle.completion.specs.Completion.{body_literals}
 use Rattle.digit_gates.specs.DigitGates.{less_vars}
-use Rattle.level_ranking.specs.Encoding.{positive_in, body_in, once, inside, Row, is_head, rows_of, width_of, ranked_atoms, rows_at, part_width}
+use Rattle.level_ranking.specs.Encoding.{positive_in, body_in, inside, Row, is_head, rows_of, width_of, ranked_atoms, rows_at, part_width}
 use Rattle.level_ranking.specs.Components.{atoms_of_part, component}
 use Rattle.ground_program.specs.Digits.{digits}
 use Rattle.level_ranking.proofs.NewDigits.{digits_vars, digits_clauses}

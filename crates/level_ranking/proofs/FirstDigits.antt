@@ -6,20 +6,18 @@ use Rattle.std.proofs.lemmas.List.Sums.{sum_by-cons}
 use Rattle.asp_base.specs.Sets.{members}
 use Rattle.asp_base.specs.Walks.{Reaches}
 use Rattle.rising_numbers.specs.Rising.{RisesFrom, place}
-use Rattle.rising_numbers.proofs.RisingLaws.{members-above, members-head}
+use Rattle.rising_numbers.proofs.RisingLaws.{members-above, members-head, rises-filter}
 use Rattle.graph_parts.specs.Divided.{is_cyclic_at}
 use Rattle.ground_program.specs.Dependencies.{depends}
 use Rattle.ground_program.specs.Facts.{IsProgram}
 use Rattle.ground_program.specs.Ground.{Ground}
 use Rattle.ground_program.proofs.Plain.{members-append_right}
-use Rattle.components.specs.Divided.{Divided, cyclic_numbers}
+use Rattle.components.specs.Divided.{Divided, cyclic_numbers, part_of}
 use Rattle.components.specs.Parts.{ArePartsOf}
 use Rattle.completion.specs.Completion.{completed}
 use Rattle.digit_gates.specs.DigitGates.{variables_from}
-use Rattle.level_ranking.specs.Components.{part_of}
 use Rattle.level_ranking.specs.Encoding.{after_digits, digits_of, width_of, with_rankings}
 use Rattle.level_ranking.specs.Ranked.{DigitsComeFirst}
-use Rattle.level_ranking.proofs.RankedStore.{rises-filter}
 use Rattle.level_ranking.proofs.SourceLaws.{from_cyclic}
 
 digits-behind : (width : ℕ → ℕ) (low : ℕ) (before after : List ℕ) (a n : ℕ) → RisesFrom low (before ++ (a ∷ after))

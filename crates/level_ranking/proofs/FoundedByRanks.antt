@@ -1,6 +1,5 @@
--- A supported set with a ranking on each cyclic component is founded, and a founded set is supported.
-use Rattle.std.proofs.Common.{◌≡◌, refl, sym, ◌∙◌, ap, subst, ℕ, zero, suc, ◌≤◌, ◌<◌, ◌==◌, Bool, true, false, cond, not, ◌&&◌, ltb, List, [], ◌∷◌, ⊎_elim, ◌⊎◌, arith}
-use mathlib.Core.Path.{fun_ext}
+-- A supported set with a ranking on each cyclic component is founded.
+use Rattle.std.proofs.Common.{◌≡◌, refl, sym, ◌∙◌, ap, ℕ, zero, suc, ◌≤◌, ◌<◌, ◌==◌, Bool, true, false, cond, not, ◌&&◌, ltb, List, [], ◌∷◌, ⊎_elim, ◌⊎◌, arith}
 use Rattle.std.specs.List.{list_any, AllByRecursion}
 use Rattle.std.proofs.lemmas.Bool.{and_parts, and_from, or_cases, or_left, or_right, true≢false, ltb-true, eqb-true, eq-eqb, cases_Bool}
 use Rattle.asp_base.specs.Literal.{Literal, Pos, Neg, all_hold}
@@ -9,20 +8,18 @@ use Rattle.asp_base.specs.Sets.{Set, none, members}
 use Rattle.ground_program.specs.Closed.{Closed}
 use Rattle.ground_program.specs.Occurrences.{atoms_of_head}
 use Rattle.ground_program.specs.Dependencies.{positives_of_literals, positives_of_body, depends}
-use Rattle.ground_program.specs.Stable.{holds, head_has, derives, step, least, Founded, Supported}
-use Rattle.ground_program.specs.declared.program.Head.{Head}
-use Rattle.ground_program.specs.declared.program.Head.TheVariants.{Nothing, One, Choice}
+use Rattle.ground_program.specs.Stable.{holds, head_has, derives, least, Founded, Supported}
 use Rattle.ground_program.specs.declared.program.Body.{Body}
 use Rattle.ground_program.specs.declared.program.Body.TheVariants.{All, Sum}
 use Rattle.ground_program.specs.declared.program.Rule.{Rule}
 use Rattle.ground_program.proofs.Passing.{list_any-weaker}
 use Rattle.asp_base.proofs.Each.{each, each-weaker}
-use Rattle.ground_program.proofs.Least.{grown-closed, grown-smallest, grown-fixpoint, same_within}
-use Rattle.ground_program.proofs.Plain.{at_member}
+use Rattle.ground_program.proofs.Least.{grown-closed, grown-smallest, same_within}
+use Rattle.ground_program.proofs.Plain.{at_member, head_has-members}
+use Rattle.ground_program.proofs.FactLaws.{normal-weighed}
 use Rattle.ground_program.specs.Normal.{IsNormalHead, IsNormalBody, AreNormal}
 use Rattle.level_ranking.specs.Encoding.{positive_in, body_in}
 use Rattle.level_ranking.proofs.Equations.{gives, is_below, IsRanking}
-use Rattle.level_ranking.proofs.RankLaws.{normal-weighed}
 
 -- a body holds at X where X has its positive atoms
 lits-at : (M X : Set) (lits : List Literal) → all_hold lits M M ≡ true → ((b : ℕ) → members (positives_of_literals lits) b ≡ true → M b ≡ true → X b ≡ true) → all_hold lits X M ≡ true
@@ -51,20 +48,10 @@ body-positive-in : (S : Set) (body : Body) (b : ℕ) → IsNormalBody body → m
 body-positive-in S (All lits) b n m s = positive-in S lits b m s
 body-positive-in S (Sum bound items) b n m s = absurd n
 
-head-member : (head : Head) (M : Set) (a : ℕ) → head_has head M a ≡ true → members (atoms_of_head head) a ≡ true
-head-member Nothing M a e = absurd (true≢false (sym e))
-head-member (One b) M a e = or_left _ _ e
-head-member (Choice as_) M a e = (and_parts _ _ e).0
-
 -- a rule makes its head depend on its positive body atoms
 each-depends : (rules : List Rule) → AllByRecursion (λ rule. (a b : ℕ) → members (atoms_of_head rule.head) a ≡ true → members (positives_of_body rule.body) b ≡ true → depends rules a b ≡ true) rules
 each-depends [] = tt
 each-depends (rule ∷ rules) = (λ a b h k. or_left _ _ (and_from _ _ h k), each-weaker _ _ (λ x f a b h k. or_right _ _ (f a b h k)) rules (each-depends rules))
-
-pub Supported-from_Founded : (P : Ground) (M : Set) → AreNormal P.rules → Founded P M → Supported P M
-Supported-from_Founded P M n f =
-    let same : least P M ≡ M = fun_ext f.least_is in
-    record { step_is = λ a. subst (λ X. step P.rules M X a ≡ X a) same (grown-fixpoint P.rules M (normal-weighed P.rules n) a); keeps = f.keeps }
 
 both : (rules : List Rule) → AreNormal rules → AllByRecursion (λ rule. (IsNormalHead rule.head × IsNormalBody rule.body) × ((a b : ℕ) → members (atoms_of_head rule.head) a ≡ true → members (positives_of_body rule.body) b ≡ true → depends rules a b ≡ true)) rules
 both rules n = zipped rules n (each-depends rules)
@@ -91,7 +78,7 @@ module _ (P : Ground) (M : Set) (normal : AreNormal P.rules) (supported : Suppor
       (each-weaker _ _ (λ rule k d.
       let one : (gives M a rule ≡ true) × (test rule ≡ true) = and_parts _ _ d in
       let two : (head_has rule.head M a ≡ true) × (holds rule.body M M ≡ true) = and_parts _ _ one.0 in
-      and_from _ _ two.0 (body-at M (least P M) rule.body k.0.1 two.1 (λ b m t. f rule k.0.1 one.1 b m t (k.1 a b (head-member rule.head M a two.0) m))))
+      and_from _ _ two.0 (body-at M (least P M) rule.body k.0.1 two.1 (λ b m t. f rule k.0.1 one.1 b m t (k.1 a b (head_has-members rule.head M a two.0) m))))
       P.rules (both P.rules normal)) e)
 
   any_test : (a : ℕ) → M a ≡ true → list_any (λ rule. gives M a rule && true) P.rules ≡ true

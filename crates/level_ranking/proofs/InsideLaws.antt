@@ -1,24 +1,25 @@
 -- Rules by their heads, and their atoms in a component.
-use Rattle.std.proofs.Common.{◌≡◌, refl, sym, ◌∙◌, ap, ap₂, subst, ℕ, zero, suc, ◌+◌, ◌-◌, ◌<◌, ◌==◌, Bool, true, false, cond, not, ◌||◌, List, [], ◌∷◌, ◌++◌, map, length, take, drop, get_or, filter, Option, Some, None, ⊎_elim, ◌⊎◌, ◌↔◌, arith, append_assoc, append-nil, eqb-true, eq-eqb}
+use Rattle.std.proofs.Common.{◌≡◌, refl, sym, ◌∙◌, ap, ap₂, subst, ℕ, zero, suc, ◌+◌, ◌-◌, ◌<◌, ◌==◌, Bool, true, false, cond, not, ◌||◌, List, [], ◌∷◌, ◌++◌, map, length, take, drop, get_or, filter, Option, Some, None, ⊎_elim, ◌⊎◌, ◌↔◌, arith, append_assoc, append-nil, eqb-true}
 use Rattle.std.specs.Option.{IsNone, IfSome}
 use Rattle.std.proofs.Math.Seq.{drop-cons}
 use Rattle.std.proofs.lemmas.List.{take_more, map-append}
 use Rattle.std.specs.List.{AllByRecursion, slice_get}
-use Rattle.std.proofs.lemmas.Bool.{true≢false, cond-true, cond-false}
+use Rattle.std.proofs.lemmas.Bool.{cond-true, cond-false}
 use Rattle.asp_base.specs.Literal.{Literal, Pos, Neg}
-use Rattle.asp_base.specs.Sets.{Set, members}
+use Rattle.asp_base.specs.Sets.{Set, members, once}
 use Rattle.graph_parts.specs.Groups.{values_of}
 use Rattle.rising_numbers.specs.Rising.{RisesFrom, place}
-use Rattle.ground_program.specs.Facts.{Among, RuleFits, HeadFits}
+use Rattle.ground_program.specs.Facts.{Among, RuleFits}
 use Rattle.ground_program.specs.declared.program.Head.{Head}
 use Rattle.ground_program.specs.declared.program.Head.TheVariants.{Nothing, One, Choice}
 use Rattle.ground_program.specs.declared.program.Body.{Body}
 use Rattle.ground_program.specs.declared.program.Body.TheVariants.{All, Sum}
 use Rattle.ground_program.specs.declared.program.Rule.{Rule}
-use Rattle.components.proofs.AtomLaws.{node-differ}
-use Rattle.completion.specs.Completion.{literals_of}
-use Rattle.level_ranking.specs.Encoding.{once, inside, Row, is_head, rows_of, positive_in, body_in}
-use Rattle.level_ranking.specs.private.Sources.{head_pairs, heads_from, first_row, rows_listed, placed, with_once}
+use Rattle.ground_program.specs.Normal.{literals_of}
+use Rattle.level_ranking.specs.Encoding.{inside, Row, is_head, rows_of, positive_in, body_in}
+use Rattle.completion.proofs.HeadLaws.{heads_it, places_from, heads-values}
+use Rattle.completion.specs.Heads.{heads_from}
+use Rattle.level_ranking.specs.private.Sources.{first_row, rows_listed, placed, with_once}
 
 -- ---- each atom once
 
@@ -133,41 +134,25 @@ drop-next zero (y ∷ xs) x ys e = cc
 drop-next (suc k) [] x ys e = absurd (cc)
 drop-next (suc k) (y ∷ xs) x ys e = drop-next k xs x ys e
 
-same-test : (atoms : List ℕ) → RisesFrom 0 atoms → (a b : ℕ) → members atoms a ≡ true → members atoms b ≡ true → ((place atoms b - 1) == (place atoms a - 1)) ≡ (b == a)
-same-test atoms rise a b ma mb = go ((place atoms b - 1) == (place atoms a - 1)) refl (b == a) refl
-  where
-    go : (x : Bool) → ((place atoms b - 1) == (place atoms a - 1)) ≡ x → (y : Bool) → (b == a) ≡ y → x ≡ y
-    go true e true f = refl
-    go false e false f = refl
-    go true e false f = absurd (true≢false (sym (eq-eqb b a (node-differ atoms rise b a mb ma (eqb-true _ _ e))) ∙ f))
-    go false e true f = absurd (true≢false (sym (eq-eqb _ _ (ap (λ z. place atoms z - 1) (eqb-true b a f))) ∙ e))
+heads-is : (a : ℕ) (head : Head) → heads_it a head ≡ is_head a head
+heads-is a Nothing = refl
+heads-is a (One b) = refl
+heads-is a (Choice bs) = refl
 
-module _ (atoms : List ℕ) (rise : RisesFrom 0 atoms) (S : Set) (a : ℕ) (among : members atoms a ≡ true) (rules : List Rule) (bodies : List (Option Literal)) where
-  abbrev key : ℕ
-  key = place atoms a - 1
-
-  listed-from : (rest : List Rule) (literals : List (Option Literal)) (k : ℕ) → drop k rules ≡ rest → drop k bodies ≡ literals → length literals ≡ length rest → AllByRecursion (RuleFits (Among atoms)) rest
-      → rows_listed S rules bodies (values_of (place atoms a - 1) (heads_from atoms k rest)) ≡ rows_of S a rest literals
-  listed-from [] literals k d e n f = refl
-  listed-from (rule ∷ rest) [] k d e n f = absurd (omega arith)
-  listed-from (rule ∷ rest) (body ∷ literals) k d e n f =
-      by_head rule.head f.0.0 (listed-from rest literals (suc k) (drop-next k rules rule rest d) (drop-next k bodies body literals e) (omega arith) f.1)
+module _ (S : Set) (a : ℕ) (rules : List Rule) (bodies : List (Option Literal)) where
+  listed-from : (rest : List Rule) (literals : List (Option Literal)) (k : ℕ) → drop k rules ≡ rest → drop k bodies ≡ literals → length literals ≡ length rest
+      → rows_listed S rules bodies (places_from a k rest) ≡ rows_of S a rest literals
+  listed-from [] literals k d e n = refl
+  listed-from (rule ∷ rest) [] k d e n = absurd (omega arith)
+  listed-from (rule ∷ rest) (body ∷ literals) k d e n =
+      ap (λ t. rows_listed S rules bodies (cond t (k ∷ places_from a (suc k) rest) (places_from a (suc k) rest))) (heads-is a rule.head)
+      ∙ go (is_head a rule.head) (listed-from rest literals (suc k) (drop-next k rules rule rest d) (drop-next k bodies body literals e) (omega arith))
     where
-      more : rows_listed S rules bodies (values_of (place atoms a - 1) (heads_from atoms (suc k) rest)) ≡ rows_of S a rest literals
-          → (x : ℕ) (b : Bool) → rows_listed S rules bodies (map (λ p. p.1) (cond b ((x, k) ∷ filter (λ p. p.0 == key) (heads_from atoms (suc k) rest)) (filter (λ p. p.0 == key) (heads_from atoms (suc k) rest))))
-          ≡ cond b (record { body = body; inside = inside S rule } ∷ rows_of S a rest literals) (rows_of S a rest literals)
-      more i x true = ap₂ (λ one others. one ++ others) (ap₂ (first_row S) d e) i
-      more i x false = i
+      go : (b : Bool) → rows_listed S rules bodies (places_from a (suc k) rest) ≡ rows_of S a rest literals
+          → rows_listed S rules bodies (cond b (k ∷ places_from a (suc k) rest) (places_from a (suc k) rest)) ≡ cond b (record { body = body; inside = inside S rule } ∷ rows_of S a rest literals) (rows_of S a rest literals)
+      go true i = ap₂ (λ one others. one ++ others) (ap₂ (first_row S) d e) i
+      go false i = i
 
-      by_head : (head : Head) → HeadFits (Among atoms) head → rows_listed S rules bodies (values_of (place atoms a - 1) (heads_from atoms (suc k) rest)) ≡ rows_of S a rest literals
-          → rows_listed S rules bodies (values_of (place atoms a - 1) (head_pairs atoms head k ++ heads_from atoms (suc k) rest))
-          ≡ cond (is_head a head) (record { body = body; inside = inside S rule } ∷ rows_of S a rest literals) (rows_of S a rest literals)
-      by_head Nothing h i = i
-      by_head (One b) h i =
-          ap (λ t. rows_listed S rules bodies (map (λ p. p.1) (cond t ((place atoms b - 1, k) ∷ filter (λ p. p.0 == key) (heads_from atoms (suc k) rest)) (filter (λ p. p.0 == key) (heads_from atoms (suc k) rest)))))
-          (same-test atoms rise a b among h) ∙ more i (place atoms b - 1) (b == a)
-      by_head (Choice bs) h i = i
-
-  pub listed-are : length bodies ≡ length rules → AllByRecursion (RuleFits (Among atoms)) rules
-      → rows_listed S rules bodies (values_of (place atoms a - 1) (heads_from atoms 0 rules)) ≡ rows_of S a rules bodies
-  listed-are n f = listed-from rules bodies 0 refl refl n f
+pub listed-are : (atoms : List ℕ) → RisesFrom 0 atoms → (S : Set) (a : ℕ) → members atoms a ≡ true → (rules : List Rule) (bodies : List (Option Literal)) → length bodies ≡ length rules → AllByRecursion (RuleFits (Among atoms)) rules
+    → rows_listed S rules bodies (values_of (place atoms a - 1) (heads_from atoms 0 rules)) ≡ rows_of S a rules bodies
+listed-are atoms rise S a among rules bodies n f = ap (rows_listed S rules bodies) (heads-values atoms rise a among rules 0 f) ∙ listed-from S a rules bodies rules bodies 0 refl refl n

@@ -8,6 +8,7 @@ mod CountLaws
 pub mod Equations
 pub mod FirstDigits
 pub mod FoundedByRanks
+mod Grows
 mod InsideLaws
 mod Limits
 mod NearLaws

@@ -5,14 +5,15 @@ use Rattle.std.specs.List.{AllByRecursion}
 use Rattle.asp_base.specs.Literal.{Literal, negation}
 use Rattle.clause_store.specs.Additions.{IsSound}
 use Rattle.clause_store.specs.Facts.{IsOver}
-use Rattle.clause_store.specs.Stored.{Stored, with_clause}
+use Rattle.clause_store.specs.Stored.{Stored, with_clause, with_clauses}
 use Rattle.asp_base.proofs.Each.{each-append, each-weaker}
 use Rattle.clause_store.proofs.GateLaws.{literals-up}
-use Rattle.level_ranking.specs.Encoding.{with_clauses, Row, negated_body, after_compared, compared, after_near, after_nears}
+use Rattle.level_ranking.specs.Encoding.{Row, negated_body, after_compared, compared, after_near, after_nears}
 use Rattle.digit_gates.specs.DigitGates.{less_vars}
-use Rattle.level_ranking.specs.private.Pairs.{each_with, digits_in, CanSupport}
+use Rattle.level_ranking.specs.declared.comparisons.First.TheVariants.{Other}
+use Rattle.level_ranking.specs.private.Pairs.{paired, digits_in, CanSupport}
 use Rattle.level_ranking.proofs.CompareLaws.{AreCompared, compared-are}
-use Rattle.level_ranking.proofs.Pushed.{length-each_with}
+use Rattle.level_ranking.proofs.Pushed.{length-paired}
 use Rattle.level_ranking.specs.private.Counts.{near_vars}
 use Rattle.level_ranking.proofs.Supporting.{can-up}
 use Rattle.level_ranking.proofs.Zeroing.{negated-over}
@@ -22,14 +23,14 @@ pub near-none : (r p : List Literal) (d : ℕ → List Literal) (body : Option L
 near-none r p d body inside s e = ap (λ bs. after_near r p d body bs s) (sym e)
 
 pub near-some : (r p : List Literal) (digits : List (List Literal)) (body : Option Literal) (inside : List ℕ) (s t : Stored) (clause : List Literal) → 0 < length inside
-    → t ≡ after_compared (each_with p digits inside) s → clause ≡ negated_body body ++ compared (each_with p digits inside) s
+    → t ≡ after_compared (paired Other p digits inside) s → clause ≡ negated_body body ++ compared (paired Other p digits inside) s
     → with_clause clause t ≡ after_near r p (digits_in digits) body inside s
 near-some r p digits body [] s t clause h e f = absurd (omega arith)
 near-some r p digits body (b ∷ bs) s t clause h e f = ap₂ (λ c u. with_clause c u) f e
 
 module _ (x : List Literal) (digits : List (List Literal)) (row : Row) (s : Stored) (sound : IsSound s) (can : CanSupport s.vars x digits row) where
   abbrev pairs : List (List Literal × List Literal)
-  pairs = each_with x digits row.inside
+  pairs = paired Other x digits row.inside
 
   are : AreCompared (length x) pairs s (after_compared pairs s) (compared pairs s)
   are = compared-are (length x) pairs s sound can.near
@@ -40,7 +41,7 @@ module _ (x : List Literal) (digits : List (List Literal)) (row : Row) (s : Stor
       (literals-up s.vars (after_compared pairs s).vars are.adds.extends.vars (negated_body row.body) (negated-over s.vars row.body can.body)) are.over)
 
   pub near-grows : (t : Stored) → t ≡ after_compared pairs s → (s.vars ≤ t.vars) × (t.vars ≤ s.vars + less_vars (length x) * length row.inside)
-  near-grows t e = rw e (are.adds.extends.vars, subst (λ n. (after_compared pairs s).vars ≤ s.vars + less_vars (length x) * n) (length-each_with x digits row.inside) are.adds.vars)
+  near-grows t e = rw e (are.adds.extends.vars, subst (λ n. (after_compared pairs s).vars ≤ s.vars + less_vars (length x) * n) (length-paired Other x digits row.inside) are.adds.vars)
 
 -- ---- the loop over rules
 

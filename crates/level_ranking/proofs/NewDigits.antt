@@ -1,14 +1,14 @@
 -- The digits of atoms: new variables, of which all are 0 where the atom is false, and one is 1 where it is true.
-use Rattle.std.proofs.Common.{◌≡◌, refl, sym, ◌∙◌, ap, ap₂, subst, ℕ, zero, suc, ◌+◌, ◌*◌, ◌^◌, ◌≤◌, ◌<◌, ◌==◌, Bool, true, false, cond, not, ◌&&◌, ◌||◌, ltb, List, [], ◌∷◌, ◌++◌, map, length, ⊎_elim, inl, inr, ◌⊎◌, arith, length-append, append_assoc}
+use Rattle.std.proofs.Common.{◌≡◌, refl, sym, ◌∙◌, ap, ap₂, subst, ℕ, zero, suc, ◌+◌, ◌*◌, ◌^◌, ◌≤◌, ◌<◌, ◌==◌, Bool, true, false, cond, not, ◌&&◌, ◌||◌, ltb, List, [], ◌∷◌, ◌++◌, map, length, ⊎_elim, inl, inr, ◌⊎◌, arith, length-append}
 use Rattle.std.specs.List.{list_any, AllByRecursion}
 use Rattle.std.proofs.lemmas.Bool.{or_cases, or_left, or_right, true≢false, eqb-true, eq-eqb, ne_eqb, cond-true, cond-false, cases_lt, lt-ltb}
 use Rattle.std.proofs.lemmas.List.Folds.{list_all-append}
-use Rattle.std.proofs.lemmas.List.{append-nil, length-map}
+use Rattle.std.proofs.lemmas.List.{length-map}
 use Rattle.asp_base.specs.Literal.{Literal, Pos, Neg, negation, atom_of}
 use Rattle.asp_base.specs.Sets.{Set, members}
 use Rattle.rising_numbers.specs.Rising.{RisesFrom}
 use Rattle.clause_store.specs.Extension.{Agree}
-use Rattle.clause_store.specs.Additions.{IsSound, stands_in}
+use Rattle.clause_store.specs.Additions.{IsSound}
 use Rattle.clause_store.specs.Facts.{IsOver}
 use Rattle.clause_store.specs.Models.{is_true, clause_true, clauses_true, IsAssignment}
 use Rattle.clause_store.specs.Stored.{Stored}
@@ -20,9 +20,10 @@ use Rattle.digit_gates.specs.Digits.{number, number_at}
 use Rattle.digit_gates.specs.DigitGates.{with_variables, variables_from, AreNewDigits}
 use Rattle.digit_gates.proofs.Variables.{length-variables, variables-over, digits-are}
 use Rattle.rising_numbers.proofs.RisingLaws.{members-above}
-use Rattle.asp_base.proofs.Bools.{same_test}
-use Rattle.clause_store.proofs.AddLaws.{stands-front, stands-back}
+use Rattle.asp_base.proofs.Bools.{and_true, or_true, same_test}
+use Rattle.clause_store.proofs.AddLaws.{stands-back}
 use Rattle.level_ranking.specs.Encoding.{digit_clauses, after_atom_digits, after_digits, digits_of}
+use Rattle.level_ranking.proofs.Grows.{Grows, grows-nothing, grows-compose}
 use Rattle.level_ranking.proofs.AtomLaws.{HasDigits}
 
 -- ---- the clauses of an atom's digits
@@ -35,11 +36,7 @@ twice_zero : (n : ℕ) → (n == 0) ≡ ((0 + 2 * n) == 0)
 twice_zero n = same_test _ _ (λ h. eq-eqb (0 + 2 * n) 0 (let k : n ≡ 0 = eqb-true n 0 h in omega arith)) (λ h. eq-eqb n 0 (let k : 0 + 2 * n ≡ 0 = eqb-true (0 + 2 * n) 0 h in omega arith))
 
 zeros : (v : ℕ) (lits : List Literal) (A : Set) → clauses_true (map (λ l. Pos v ∷ negation l ∷ []) lits) A ≡ (A v || (number_at A lits == 0))
-zeros v [] A = ends (A v)
-  where
-    ends : (b : Bool) → true ≡ (b || true)
-    ends true = refl
-    ends false = refl
+zeros v [] A = sym (or_true (A v))
 zeros v (l ∷ lits) A =
     ap₂ (λ x y. (A v || (x || false)) && y) (literal_holds-negation l A) (zeros v lits A) ∙ join (A v) (is_true l A) (number_at A lits)
   where
@@ -67,15 +64,7 @@ digits_say v lits A =
   where
     join : (b : Bool) (n : ℕ) → ((b || (n == 0)) && ((not b || not (n == 0)) && true)) ≡ digits_test b n
     join true n = and_true (not (n == 0)) ∙ above_zero n
-      where
-        and_true : (b : Bool) → (b && true) ≡ b
-        and_true true = refl
-        and_true false = refl
     join false n = and_true (n == 0)
-      where
-        and_true : (b : Bool) → (b && true) ≡ b
-        and_true true = refl
-        and_true false = refl
 
 length-digit_clauses : (v : ℕ) (lits : List Literal) → length (digit_clauses v lits) ≡ suc (length lits)
 length-digit_clauses v lits = length-append (map (λ l. Pos v ∷ negation l ∷ []) lits) ((Neg v ∷ lits) ∷ []) ∙ (ap (λ n. n + 1) (length-map lits (λ l. Pos v ∷ negation l ∷ [])) ∙ omega arith)
@@ -110,18 +99,25 @@ module _ (v w : ℕ) (s : Stored) (low : 0 < v) (high : v ≤ s.vars) (sound : I
         known = known-more s.vars (s.vars + w) s.hard (digit_clauses v (variables_from w s.vars)) s.known up sound.known;
       }
 
-  next-clauses : length next.hard ≡ length s.hard + (w + 1)
-  next-clauses =
-      let c : length (s.hard ++ digit_clauses v (variables_from w s.vars)) ≡ length s.hard + length (digit_clauses v (variables_from w s.vars)) = length-append s.hard (digit_clauses v (variables_from w s.vars)) in
-      let d : length (digit_clauses v (variables_from w s.vars)) ≡ suc (length (variables_from w s.vars)) = length-digit_clauses v (variables_from w s.vars) in
-      let e : length (variables_from w s.vars) ≡ w = length-variables w s.vars in
-      omega arith
-
-  next-stand : (u : ℕ) → s.vars < u → u ≤ s.vars + w → stands_in u next.hard ≡ true
-  next-stand u h k =
-      stands-back u s.hard (digit_clauses v (variables_from w s.vars))
-      (stands-back u (map (λ l. Pos v ∷ negation l ∷ []) (variables_from w s.vars)) ((Neg v ∷ variables_from w s.vars) ∷ [])
-      (or_left _ _ (or_right _ _ (variables-have w s.vars u h k))))
+  next-grows : Grows w (w + 1) s next
+  next-grows = record {
+    up = omega arith;
+    edges = refl;
+    soft = refl;
+    sound = next-sound;
+    behind = (digit_clauses v (variables_from w s.vars), refl);
+    vars = omega arith;
+    clauses =
+        let c : length (s.hard ++ digit_clauses v (variables_from w s.vars)) ≡ length s.hard + length (digit_clauses v (variables_from w s.vars)) = length-append s.hard (digit_clauses v (variables_from w s.vars)) in
+        let d : length (digit_clauses v (variables_from w s.vars)) ≡ suc (length (variables_from w s.vars)) = length-digit_clauses v (variables_from w s.vars) in
+        let e : length (variables_from w s.vars) ≡ w = length-variables w s.vars in
+        omega arith;
+    stand = λ u h k.
+        stands-back u s.hard (digit_clauses v (variables_from w s.vars))
+        (stands-back u (map (λ l. Pos v ∷ negation l ∷ []) (variables_from w s.vars)) ((Neg v ∷ variables_from w s.vars) ∷ [])
+        (or_left _ _ (or_right _ _ (variables-have w s.vars u h k))));
+    keeps = λ A k. clauses_true-front s.hard (digit_clauses v (variables_from w s.vars)) A k;
+  }
 
   next-only : (A : Set) → clauses_true next.hard A ≡ true → digits_test (A v) (number_at A (variables_from w s.vars)) ≡ true
   next-only A t = sym (digits_say v (variables_from w s.vars) A) ∙ clauses_true-back s.hard (digit_clauses v (variables_from w s.vars)) A t
@@ -154,15 +150,7 @@ module _ (var width : ℕ → ℕ) where
   digits_clauses (a ∷ atoms) = (width a + 1) + digits_clauses atoms
 
   pub record MakesDigits (atoms : List ℕ) (s t : Stored) : Type 0 where
-    pub up : s.vars ≤ t.vars
-    pub edges : t.edges ≡ s.edges
-    pub soft : t.soft ≡ s.soft
-    pub sound : IsSound t
-    pub behind : (cs : List (List Literal)) × (t.hard ≡ s.hard ++ cs)
-    pub vars : t.vars ≤ s.vars + digits_vars atoms
-    pub clauses : length t.hard ≤ length s.hard + digits_clauses atoms
-    pub stand : (v : ℕ) → s.vars < v → v ≤ t.vars → stands_in v t.hard ≡ true
-    pub keeps : (A : Set) → clauses_true t.hard A ≡ true → clauses_true s.hard A ≡ true
+    pub grows : Grows (digits_vars atoms) (digits_clauses atoms) s t
     pub has : (a : ℕ) → members atoms a ≡ true → HasDigits t.vars (width a) (digits_of width atoms s.vars a)
     pub only : (A : Set) → clauses_true t.hard A ≡ true → (a : ℕ) → members atoms a ≡ true → digits_test (A (var a)) (number_at A (digits_of width atoms s.vars a)) ≡ true
     pub some : (A : Set) → IsAssignment s.vars A → clauses_true s.hard A ≡ true → (r : ℕ → ℕ) → ((a : ℕ) → members atoms a ≡ true → r a < 2 ^ width a)
@@ -181,15 +169,7 @@ module _ (var width : ℕ → ℕ) where
 
   pub makes-digits : (low : ℕ) (atoms : List ℕ) (s : Stored) → RisesFrom low atoms → ((a : ℕ) → members atoms a ≡ true → (0 < var a) × (var a ≤ s.vars)) → IsSound s → MakesDigits atoms s (after_digits var width atoms s)
   makes-digits low [] s r h x = record {
-    up = omega arith;
-    edges = refl;
-    soft = refl;
-    sound = x;
-    behind = ([], sym (append-nil s.hard));
-    vars = omega arith;
-    clauses = omega arith;
-    stand = λ v g k. absurd (omega arith);
-    keeps = λ A k. k;
+    grows = grows-nothing s x;
     has = λ a m. absurd (true≢false (sym m));
     only = λ A k a m. absurd (true≢false (sym m));
     some = λ A o k q f g. (A, o, k, (λ v l. refl), λ a m. absurd (true≢false (sym m)));
@@ -202,23 +182,14 @@ module _ (var width : ℕ → ℕ) where
       let own_high : var a ≤ s.vars = own.1 in
       let t : Stored = after_atom_digits (var a) w s in
       let u : Stored = after_digits var width atoms t in
+      let next : Grows w (w + 1) s t = next-grows (var a) w s own_low own_high x in
       let i : MakesDigits atoms t u = makes-digits a atoms t r.1
-      (λ b m. let k : (0 < var b) × (var b ≤ s.vars) = h b (or_right _ _ m) in let l : var b ≤ s.vars = k.1 in (k.0, omega arith)) (next-sound (var a) w s own_low own_high x) in
-      let iup : s.vars + w ≤ u.vars = i.up in
+      (λ b m. let k : (0 < var b) × (var b ≤ s.vars) = h b (or_right _ _ m) in let l : var b ≤ s.vars = k.1 in (k.0, omega arith)) next.sound in
+      let iup : s.vars + w ≤ u.vars = i.grows.up in
       let above : (b : ℕ) → members atoms b ≡ true → a < b = λ b m. members-above a atoms b r.1 m in
       let D : List Literal = variables_from w s.vars in
       record {
-        up = omega arith;
-        edges = i.edges;
-        soft = i.soft;
-        sound = i.sound;
-        behind = (digit_clauses (var a) D ++ i.behind.0, i.behind.1 ∙ append_assoc s.hard (digit_clauses (var a) D) i.behind.0);
-        vars = let v : u.vars ≤ (s.vars + w) + digits_vars atoms = i.vars in omega arith;
-        clauses = let c : length u.hard ≤ length t.hard + digits_clauses atoms = i.clauses in let d : length t.hard ≡ length s.hard + (w + 1) = next-clauses (var a) w s own_low own_high x in omega arith;
-        stand = λ v g k. ⊎_elim (λ e. i.stand v e k)
-            (λ e. subst (λ cs. stands_in v cs ≡ true) (sym i.behind.1) (stands-front v t.hard i.behind.0 (next-stand (var a) w s own_low own_high x v g e)))
-            (cases_lt (s.vars + w) v);
-        keeps = λ A k. clauses_true-front s.hard (digit_clauses (var a) D) A (i.keeps A k);
+        grows = grows-compose w (w + 1) (digits_vars atoms) (digits_clauses atoms) s t u next i.grows;
         has = λ b m. ⊎_elim
             (λ e. let q : a ≡ b = eqb-true a b e in
             subst (λ c. HasDigits u.vars (width c) (digits_of width (a ∷ atoms) s.vars c)) q
@@ -228,7 +199,7 @@ module _ (var width : ℕ → ℕ) where
         only = λ A k b m. ⊎_elim
             (λ e. let q : a ≡ b = eqb-true a b e in
             subst (λ c. digits_test (A (var c)) (number_at A (digits_of width (a ∷ atoms) s.vars c)) ≡ true) q
-            (subst (λ ls. digits_test (A (var a)) (number_at A ls) ≡ true) (sym (digits-own a atoms s.vars)) (next-only (var a) w s own_low own_high x A (i.keeps A k))))
+            (subst (λ ls. digits_test (A (var a)) (number_at A ls) ≡ true) (sym (digits-own a atoms s.vars)) (next-only (var a) w s own_low own_high x A (i.grows.keeps A k))))
             (λ e. subst (λ ls. digits_test (A (var b)) (number_at A ls) ≡ true) (sym (digits-other a atoms s.vars b (above b e))) (i.only A k b e))
             (or_cases _ _ m);
         some = λ A o k q f g.

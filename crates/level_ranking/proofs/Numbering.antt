@@ -6,9 +6,9 @@ use Rattle.std.specs.List.{AllByRecursion}
 use Rattle.asp_base.specs.Literal.{Literal, Pos, Neg, negation}
 use Rattle.rising_numbers.specs.Rising.{place}
 use Rattle.clause_store.specs.Facts.{IsOver}
-use Rattle.clause_store.specs.Stored.{Stored, with_clause}
+use Rattle.clause_store.specs.Stored.{Stored, with_clause, with_clauses}
 use Rattle.clause_store.proofs.GateLaws.{negation-over}
-use Rattle.level_ranking.specs.Encoding.{with_clauses, digit_clauses, after_atom_digits, after_digits}
+use Rattle.level_ranking.specs.Encoding.{digit_clauses, after_atom_digits, after_digits}
 use Rattle.components.specs.Divided.{Divided}
 use Rattle.digit_gates.specs.DigitGates.{variables_from}
 use Rattle.level_ranking.specs.private.Sources.{is_ranked, width_among, digit_table}

@@ -31,13 +31,13 @@ atom-limits n0 w wide digits v low high r own rows o s h x =
     let u : Stored = after_supported v p digits rows t in
     let i : Limits n0 (support_vars w rows) (support_clauses w rows + 1) (supported_test w digits r v rows) t u =
     supported-limits n0 w wide digits r p own (g.digits ∙ count) v low high rows t o (omega arith) (g.adds.sound) g.over lower in
-    let up : t.vars ≤ u.vars = i.up in
+    let up : t.vars ≤ u.vars = i.grows.up in
     let j : Limits n0 (near_vars w rows) (near_clauses w rows) (nears_test w digits r rows) u (after_nears r p digits rows u) =
-    nears-limits n0 w wide digits r p own (g.digits ∙ count) rows u o (omega arith) i.sound (literals-up t.vars u.vars up p g.over) (λ A e. lower A (i.keeps A e)) in
+    nears-limits n0 w wide digits r p own (g.digits ∙ count) rows u o (omega arith) i.grows.sound (literals-up t.vars u.vars up p g.over) (λ A e. lower A (i.grows.keeps A e)) in
     limits-more n0 (2 * length r + (support_vars w rows + near_vars w rows)) (7 * length r + ((support_clauses w rows + 1) + near_clauses w rows)) (atom_vars w rows) (atom_clauses w rows)
     (λ A. true && atom_test w digits v r rows A) (atom_test w digits v r rows) s (after_nears r p digits rows u) (omega arith) (omega arith) (λ A. refl)
     (limits-compose n0 (2 * length r) (7 * length r) (support_vars w rows + near_vars w rows) ((support_clauses w rows + 1) + near_clauses w rows) (λ A. true) (atom_test w digits v r rows) s t _
-    (limits-adds n0 (2 * length r) (7 * length r) s t h x g.adds)
+    (limits-adds n0 (2 * length r) (7 * length r) s t h g.adds)
     (limits-compose n0 (support_vars w rows) (support_clauses w rows + 1) (near_vars w rows) (near_clauses w rows) (supported_test w digits r v rows) (nears_test w digits r rows) t u _ i j))
 
 -- ---- the atoms of a component
@@ -57,6 +57,6 @@ module _ (n0 w : ℕ) (wide : 0 < w) (var : ℕ → ℕ) (digits : ℕ → List 
       let t : Stored = after_atom (var a) (digits a) digits (rows a) s in
       let i : Limits n0 (atom_vars w (rows a)) (atom_clauses w (rows a)) (atom_test w digits (var a) (digits a) (rows a)) s t =
       atom-limits n0 w wide digits (var a) o.0.low o.0.high (digits a) o.0.own (rows a) o.0.rules s h x in
-      let up : s.vars ≤ t.vars = i.up in
+      let up : s.vars ≤ t.vars = i.grows.up in
       limits-compose n0 (atom_vars w (rows a)) (atom_clauses w (rows a)) (atoms_vars w rows atoms) (atoms_clauses w rows atoms) (atom_test w digits (var a) (digits a) (rows a)) _ s t (after_atoms var digits rows atoms t) i
-      (atoms-limits atoms t o.1 (omega arith) i.sound)
+      (atoms-limits atoms t o.1 (omega arith) i.grows.sound)

@@ -8,10 +8,9 @@ use Rattle.graph_parts.specs.Divided.{is_cyclic_at}
 use Rattle.ground_program.specs.Ground.{Ground}
 use Rattle.rising_numbers.specs.Rising.{place}
 use Rattle.clause_store.specs.Stored.{Stored}
-use Rattle.components.specs.Divided.{Divided, cyclic_numbers}
+use Rattle.components.specs.Divided.{Divided, cyclic_numbers, part_of}
 use Rattle.level_ranking.specs.private.Counts.{atom_vars, atoms_vars, parts_vars}
 use Rattle.level_ranking.specs.Encoding.{after_atom, after_atoms, after_parts}
-use Rattle.level_ranking.specs.Components.{part_of}
 use Rattle.level_ranking.specs.private.Sources.{in_component, atoms_in, ranking_digits, ranking_rows, ranking_width}
 use Rattle.level_ranking.proofs.RankedStore.{each-from_members}
 use Rattle.level_ranking.proofs.SourceLaws.{members-cyclic}

@@ -2,14 +2,15 @@
 use Rattle.std.proofs.Common.{◌≡◌, refl, sym, ◌∙◌, ap, subst, subst₂, ℕ, suc, ◌+◌, ◌*◌, ◌≤◌, ◌<◌, List, [], ◌∷◌, ◌++◌, length, drop, get_or, slice_index_or, arith, append_assoc}
 use Rattle.std.proofs.Math.Nat.{mul-suc}
 use Rattle.std.proofs.Math.Seq.{drop-cons}
-use Rattle.std.proofs.lemmas.List.{drop_all, append-nil, get_or-map, get_or_read}
+use Rattle.std.proofs.lemmas.List.{length-map, drop_all, append-nil, get_or-map, get_or_read}
 use Rattle.std.specs.List.{AllByRecursion}
 use Rattle.asp_base.specs.Literal.{Literal, negation}
 use Rattle.asp_base.proofs.Each.{each-get}
 use Rattle.clause_store.specs.Stored.{Stored}
 use Rattle.digit_gates.specs.DigitGates.{after_less, less_output, IsLess, less_vars}
 use Rattle.level_ranking.specs.Encoding.{after_compared, compared}
-use Rattle.level_ranking.specs.private.Pairs.{IsPair, with_each, each_with}
+use Rattle.level_ranking.specs.private.Pairs.{IsPair, in_order, paired}
+use Rattle.level_ranking.specs.declared.comparisons.First.{First}
 use Rattle.level_ranking.proofs.CompareLaws.{pair-up}
 
 -- so many pairs are done
@@ -60,50 +61,38 @@ pushing-here w pairs first now start out i p h e c =
     (both.0, omega arith)
 
 -- the pair at a place
-pub with_each-at : (x : List Literal) (digits : List (List Literal)) (places : List ℕ) (i : ℕ) (d : List Literal) → i < length places → get_or places i 0 < length digits → d ≡ get_or digits (get_or places i 0) d
-    → get_or (with_each x digits places) i (x, d) ≡ (x, d)
-with_each-at x digits places i d h k e =
-    get_or-map (λ j. (x, slice_index_or digits j [])) places i 0 (x, d) h ∙ ap (λ y. (x, y)) (sym (get_or_read digits (get_or places i 0) d k e []))
+pub paired-at : (f : First) (x : List Literal) (digits : List (List Literal)) (places : List ℕ) (i : ℕ) (d : List Literal) → i < length places → get_or places i 0 < length digits → d ≡ get_or digits (get_or places i 0) d
+    → get_or (paired f x digits places) i (in_order f x d) ≡ in_order f x d
+paired-at f x digits places i d h k e =
+    get_or-map (λ j. in_order f x (slice_index_or digits j [])) places i 0 (in_order f x d) h ∙ ap (in_order f x) (sym (get_or_read digits (get_or places i 0) d k e []))
 
-pub each_with-at : (x : List Literal) (digits : List (List Literal)) (places : List ℕ) (i : ℕ) (d : List Literal) → i < length places → get_or places i 0 < length digits → d ≡ get_or digits (get_or places i 0) d
-    → get_or (each_with x digits places) i (d, x) ≡ (d, x)
-each_with-at x digits places i d h k e =
-    get_or-map (λ j. (slice_index_or digits j [], x)) places i 0 (d, x) h ∙ ap (λ y. (y, x)) (sym (get_or_read digits (get_or places i 0) d k e []))
+pub length-paired : (f : First) (x : List Literal) (digits : List (List Literal)) (places : List ℕ) → length (paired f x digits places) ≡ length places
+length-paired f x digits places = length-map places (λ i. in_order f x (slice_index_or digits i []))
 
-pub length-with_each : (x : List Literal) (digits : List (List Literal)) (places : List ℕ) → length (with_each x digits places) ≡ length places
-length-with_each x digits [] = refl
-length-with_each x digits (i ∷ places) = ap (λ n. suc n) (length-with_each x digits places)
+-- a loop over places, at one of which the digits d stand
+module _ (f : First) (x : List Literal) (digits : List (List Literal)) (places : List ℕ) (first now : Stored) (start out : List Literal) (i : ℕ) (d : List Literal)
+    (within : AllByRecursion (λ k. k < length digits) places) (inside : i < length places) (read : d ≡ get_or digits (get_or places i 0) d)
+    (c : Pushing (length x) (paired f x digits places) first now start out i) (p : List Literal × List Literal) (is : p ≡ in_order f x d) where
+  inside_pairs : i < length (paired f x digits places)
+  inside_pairs = omega (arith, inside, length-paired f x digits places)
 
-pub length-each_with : (x : List Literal) (digits : List (List Literal)) (places : List ℕ) → length (each_with x digits places) ≡ length places
-length-each_with x digits [] = refl
-length-each_with x digits (i ∷ places) = ap (λ n. suc n) (length-each_with x digits places)
+  read_pair : get_or (paired f x digits places) i p ≡ p
+  read_pair = rw is (paired-at f x digits places i d inside (each-get (λ k. k < length digits) places i 0 inside within) read)
 
-module _ (x : List Literal) (digits : List (List Literal)) (places : List ℕ) (first now : Stored) (start out : List Literal) (i : ℕ) (d : List Literal)
-    (within : AllByRecursion (λ k. k < length digits) places) (inside : i < length places) (read : d ≡ get_or digits (get_or places i 0) d) where
-  place-within : get_or places i 0 < length digits
-  place-within = each-get (λ k. k < length digits) places i 0 inside within
+  pub paired-here : IsPair (length x) now.vars p
+  paired-here = (pushing-here (length x) (paired f x digits places) first now start out i p inside_pairs read_pair c).0
 
-  pub with_each-here : Pushing (length x) (with_each x digits places) first now start out i → IsPair (length x) now.vars (x, d)
-  with_each-here c = (pushing-here (length x) (with_each x digits places) first now start out i (x, d) (omega (arith, inside, length-with_each x digits places)) (with_each-at x digits places i d inside place-within read) c).0
+  pub paired-next : (j : ℕ) → j ≡ suc i → IsLess p.0 p.1 (less_output p.0 p.1 now) now (after_less p.0 p.1 now)
+      → Pushing (length x) (paired f x digits places) first (after_less p.0 p.1 now) start (out ++ (negation (less_output p.0 p.1 now) ∷ [])) j
+  paired-next j q g = pushing-next (length x) (paired f x digits places) first now start out i j p q inside_pairs read_pair c g
 
-  pub with_each-next : (j : ℕ) → j ≡ suc i → Pushing (length x) (with_each x digits places) first now start out i → IsLess x d (less_output x d now) now (after_less x d now)
-      → Pushing (length x) (with_each x digits places) first (after_less x d now) start (out ++ (negation (less_output x d now) ∷ [])) j
-  with_each-next j q c g = pushing-next (length x) (with_each x digits places) first now start out i j (x, d) q (omega (arith, inside, length-with_each x digits places)) (with_each-at x digits places i d inside place-within read) c g
-
-  pub each_with-here : Pushing (length x) (each_with x digits places) first now start out i → IsPair (length x) now.vars (d, x)
-  each_with-here c = (pushing-here (length x) (each_with x digits places) first now start out i (d, x) (omega (arith, inside, length-each_with x digits places)) (each_with-at x digits places i d inside place-within read) c).0
-
-  pub each_with-next : (j : ℕ) → j ≡ suc i → Pushing (length x) (each_with x digits places) first now start out i → IsLess d x (less_output d x now) now (after_less d x now)
-      → Pushing (length x) (each_with x digits places) first (after_less d x now) start (out ++ (negation (less_output d x now) ∷ [])) j
-  each_with-next j q c g = pushing-next (length x) (each_with x digits places) first now start out i j (d, x) q (omega (arith, inside, length-each_with x digits places)) (each_with-at x digits places i d inside place-within read) c g
-
-  pub each_with-room : (n : ℕ) → Pushing (length x) (each_with x digits places) first now start out i → first.vars + less_vars (length x) * length places < n → now.vars + less_vars (length d) < n
-  each_with-room n c h =
-      let k : IsPair (length x) now.vars (d, x) × (now.vars + less_vars (length x) ≤ first.vars + less_vars (length x) * length (each_with x digits places)) =
-      pushing-here (length x) (each_with x digits places) first now start out i (d, x) (omega (arith, inside, length-each_with x digits places)) (each_with-at x digits places i d inside place-within read) c in
-      let room : now.vars + less_vars (length x) ≤ first.vars + less_vars (length x) * length (each_with x digits places) = k.1 in
-      let same : less_vars (length x) * length (each_with x digits places) ≡ less_vars (length x) * length places = ap (λ m. less_vars (length x) * m) (length-each_with x digits places) in
-      let count : less_vars (length d) ≡ less_vars (length x) = ap less_vars k.0.first in
+  pub paired-room : (n : ℕ) → first.vars + less_vars (length x) * length places < n → now.vars + less_vars (length p.0) < n
+  paired-room n h =
+      let k : IsPair (length x) now.vars p × (now.vars + less_vars (length x) ≤ first.vars + less_vars (length x) * length (paired f x digits places)) =
+      pushing-here (length x) (paired f x digits places) first now start out i p inside_pairs read_pair c in
+      let room : now.vars + less_vars (length x) ≤ first.vars + less_vars (length x) * length (paired f x digits places) = k.1 in
+      let same : less_vars (length x) * length (paired f x digits places) ≡ less_vars (length x) * length places = ap (λ m. less_vars (length x) * m) (length-paired f x digits places) in
+      let count : less_vars (length p.0) ≡ less_vars (length x) = ap less_vars k.0.first in
       omega arith
 
 -- what less answers, as the functions of stores have it

@@ -12,11 +12,12 @@ use Rattle.ground_program.proofs.Passing.{list_any-weaker, passing, passing_le-l
 use Rattle.asp_base.proofs.Each.{each, each-weaker, each-member}
 use Rattle.ground_program.proofs.Least.{step-mono, closed-next, holds-mono, grown-smallest}
 use Rattle.ground_program.proofs.Plain.{at_member}
+use Rattle.ground_program.proofs.FactLaws.{normal-weighed}
 use Rattle.ground_program.specs.Normal.{IsNormalHead, IsNormalBody, AreNormal}
 use Rattle.level_ranking.specs.Ranking.{is_head_in, inner, ranked, first_below, rank}
 use Rattle.level_ranking.specs.Encoding.{body_in}
 use Rattle.level_ranking.proofs.Equations.{gives, is_below, near_one, is_near, IsRanking}
-use Rattle.level_ranking.proofs.RankLaws.{any_with_each, list_any-filter, normal-weighed, inner-weighed, body-holds, body-in, head-inner, inner-head, ranked-outside, ranked-within}
+use Rattle.level_ranking.proofs.RankLaws.{any_with_each, list_any-filter, inner-weighed, body-holds, body-in, head-inner, inner-head, ranked-outside, ranked-within}
 
 -- ---- the first number that passes
 

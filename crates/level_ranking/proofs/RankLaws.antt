@@ -14,6 +14,8 @@ use Rattle.ground_program.specs.declared.program.Rule.{Rule}
 use Rattle.ground_program.proofs.Passing.{list_any-weaker}
 use Rattle.asp_base.proofs.Each.{each, each-filter, each-weaker}
 use Rattle.ground_program.proofs.Least.{rounds-within, holds-mono}
+use Rattle.asp_base.proofs.Bools.{imply}
+use Rattle.ground_program.proofs.FactLaws.{normal-weighed}
 use Rattle.ground_program.specs.Normal.{IsNormalHead, IsNormalBody, AreNormal}
 use Rattle.level_ranking.specs.Ranking.{is_head_in, inner, outside, ranked}
 use Rattle.level_ranking.specs.Encoding.{positive_in, body_in}
@@ -39,13 +41,6 @@ list_any-filter f p (x ∷ xs) = go (f x) ∙ ap (λ b. (f x && p x) || b) (list
     go : (b : Bool) → list_any p (cond b (x ∷ filter f xs) (filter f xs)) ≡ ((b && p x) || list_any p (filter f xs))
     go true = refl
     go false = refl
-
-pub normal-weighed : (rules : List Rule) → AreNormal rules → Weighed rules
-normal-weighed rules n = each-weaker _ _ (λ rule h. weighed rule.body h.1) rules n
-  where
-    weighed : (body : Body) → IsNormalBody body → HasWeights body
-    weighed (All lits) h = tt
-    weighed (Sum bound items) h = absurd h
 
 pub inner-weighed : (S : Set) (rules : List Rule) → AreNormal rules → Weighed (inner S rules)
 inner-weighed S rules n = each-filter _ _ rules (normal-weighed rules n)
@@ -132,10 +127,6 @@ near-bound r a k [] e h = let j : r a ≤ 1 = leb-true _ _ e in omega arith
 near-bound r a k (b ∷ bs) e h =
     any_with_all (λ c. leb (r a) (suc (r c))) (λ c. leb (r c) k) (b ∷ bs) (r a ≤ suc k) e h
     (λ c p q. let i : r a ≤ suc (r c) = leb-true _ _ p in let j : r c ≤ k = leb-true _ _ q in omega arith)
-
-imply : (x y : Bool) → (not x || y) ≡ true → x ≡ true → y ≡ true
-imply true y e h = e
-imply false y e h = absurd (true≢false (sym h))
 
 -- an atom that a round has is given no larger number
 pub ranking-least : (S : Set) (rules : List Rule) (M : Set) (r : ℕ → ℕ) → AreNormal rules → Closed rules M M → IsRanking S rules M r → (k a : ℕ) → S a ≡ true → ranked S rules M k a ≡ true → r a ≤ k

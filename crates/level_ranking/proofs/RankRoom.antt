@@ -4,14 +4,13 @@ use Rattle.ground_program.specs.Facts.{IsProgram}
 use Rattle.ground_program.specs.Ground.{Ground}
 use Rattle.rising_numbers.specs.Rising.{place}
 use Rattle.ground_program.specs.Size.{size}
-use Rattle.components.specs.Divided.{Divided, cyclic_numbers}
+use Rattle.components.specs.Divided.{Divided, cyclic_numbers, part_of}
 use Rattle.completion.specs.Completion.{completed, with_bodies}
 use Rattle.ground_program.specs.Normal.{AreNormal}
 use Rattle.completion.proofs.BodyLaws.{rules-below, length-le_size}
 use Rattle.level_ranking.specs.private.Counts.{parts_vars}
 use Rattle.ground_program.specs.Digits.{digits}
 use Rattle.level_ranking.specs.Encoding.{width_of, ranked_atoms, with_digits}
-use Rattle.level_ranking.specs.Components.{part_of}
 use Rattle.components.specs.Parts.{ArePartsOf}
 use Rattle.level_ranking.proofs.CountLaws.{mul-mono}
 use Rattle.level_ranking.proofs.NewDigits.{digits_vars}
@@ -34,7 +33,7 @@ module _ (P : Ground) (program : IsProgram P) (normal : AreNormal P.rules) (d : 
   pub all-vars : (with_digits P (part_of d) (cyclic_numbers d)).vars + parts_vars P (part_of d) (cyclic_numbers d) (cyclic_numbers d) < 2 ^ 31
   all-vars =
       let m : (with_digits P (part_of d) (cyclic_numbers d)).vars ≤ (completed P).vars + digits_vars (place P.atoms) (width_of P (part_of d) (cyclic_numbers d)) (ranked_atoms P (part_of d) (cyclic_numbers d)) =
-      (made P program normal (part_of d) (cyclic_numbers d) (parts-are P program d p)).vars in
+      (made P program normal (part_of d) (cyclic_numbers d) (parts-are P program d p)).grows.vars in
       let f : parts_vars P (part_of d) (cyclic_numbers d) (cyclic_numbers d) + digits_vars (place P.atoms) (width_of P (part_of d) (cyclic_numbers d)) (ranked_atoms P (part_of d) (cyclic_numbers d)) ≤ 3 * (digits (size P) * size P) =
       (few P program normal (part_of d) (cyclic_numbers d) (cyclic-rises d) (parts-are P program d p)).0 in
       let b : digits (size P) * size P ≤ 25 * size P = mul-mono (digits (size P)) 25 (size P) (few_digits (size P) small) in

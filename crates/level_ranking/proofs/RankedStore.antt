@@ -1,5 +1,5 @@
 -- The models of the completion with rankings, cut to the atoms, are one to one the founded sets.
-use Rattle.std.proofs.Common.{◌≡◌, refl, sym, ◌∙◌, ap, ap₂, subst, ℕ, ◌^◌, ◌≤◌, ◌<◌, ◌==◌, Bool, true, false, cond, not, ◌&&◌, ◌||◌, ltb, List, [], ◌∷◌, length, filter, ⊎_elim, arith}
+use Rattle.std.proofs.Common.{◌≡◌, refl, sym, ◌∙◌, ap, ap₂, subst, ℕ, ◌^◌, ◌≤◌, ◌<◌, ◌==◌, Bool, true, false, not, ◌&&◌, ◌||◌, ltb, List, [], ◌∷◌, length, ⊎_elim, arith}
 use mathlib.Core.Path.{fun_ext}
 use Rattle.std.specs.List.{list_any, list_all, AllByRecursion}
 use Rattle.std.proofs.lemmas.Bool.{and_parts, and_from, or_left, or_right, cases_lt, cases_Bool, eqb-true, eq-eqb, ltb-true, lt-ltb}
@@ -7,12 +7,13 @@ use Rattle.asp_base.specs.Literal.{Literal}
 use Rattle.asp_base.specs.Sets.{Set, members, Same}
 use Rattle.asp_base.specs.Walks.{Acyclic}
 use Rattle.ground_program.specs.Facts.{IsProgram}
-use Rattle.rising_numbers.specs.Rising.{RisesFrom, place}
+use Rattle.rising_numbers.specs.Rising.{place}
 use Rattle.ground_program.specs.Ground.{Ground}
 use Rattle.ground_program.specs.Stable.{head_has, Founded, Supported}
 use Rattle.rising_numbers.proofs.PlaceLaws.{place-within, place-outside}
-use Rattle.rising_numbers.proofs.RisingLaws.{RisesFrom-lower}
-use Rattle.ground_program.proofs.Plain.{at_member}
+use Rattle.rising_numbers.proofs.RisingLaws.{rises-filter}
+use Rattle.ground_program.proofs.Plain.{at_member, members-filter}
+use Rattle.ground_program.proofs.Negative.{Supported-from_Founded}
 use Rattle.clause_store.specs.Extension.{Agree}
 use Rattle.clause_store.specs.Additions.{IsSound}
 use Rattle.clause_store.specs.Gates.{values_at}
@@ -27,14 +28,12 @@ use Rattle.completion.proofs.OverLaws.{completed-sound}
 use Rattle.digit_gates.specs.Digits.{number_at, predecessor}
 use Rattle.digit_gates.proofs.DigitLaws.{number-fits}
 use Rattle.level_ranking.specs.Components.{AreParts, atoms_of_part, component}
-use Rattle.level_ranking.specs.Encoding.{inside, after_atoms, width_of, ranked_atoms, digits_at, with_digits, rows_at, after_parts, with_rankings}
+use Rattle.level_ranking.specs.Encoding.{inside, after_atoms, width_of, ranked_atoms, digits_at, with_digits, rows_at, after_parts, with_rankings, part_width}
 use Rattle.level_ranking.proofs.Conditions.{is_empty_body, is_given, supports, near_one_of, keeps_near, Meets, MeetsAll, AreWide}
 use Rattle.level_ranking.specs.Ranked.{rank_in_part, HasFounded}
-use Rattle.level_ranking.specs.Encoding.{part_width}
 use Rattle.level_ranking.specs.private.Counts.{parts_vars, parts_clauses, atoms_vars, atoms_clauses}
 use Rattle.level_ranking.proofs.WidthLaws.{digits-fit, some_digit}
-use Rattle.level_ranking.proofs.FoundedByRanks.{Supported-from_Founded}
-use Rattle.level_ranking.proofs.ComponentRanks.{members-filter, Meets-same, Founded-from_conditions, ranks-from_conditions, conditions-from_Founded}
+use Rattle.level_ranking.proofs.ComponentRanks.{Meets-same, Founded-from_conditions, ranks-from_conditions, conditions-from_Founded}
 use Rattle.level_ranking.proofs.Limits.{Limits, limits-nothing, limits-compose}
 use Rattle.level_ranking.proofs.AtomLaws.{HasDigits, supports_test, near_test, nears_test}
 use Rattle.level_ranking.proofs.PartLaws.{atom_test, IsAtom, atoms-limits}
@@ -50,14 +49,6 @@ each-from_members P (x ∷ xs) h = (h x (or_left _ _ (eq-eqb x x refl)), each-fr
 all-member : (p : ℕ → Bool) (xs : List ℕ) → ((a : ℕ) → members xs a ≡ true → p a ≡ true) → list_all p xs ≡ true
 all-member p [] h = refl
 all-member p (x ∷ xs) h = and_from _ _ (h x (or_left _ _ (eq-eqb x x refl))) (all-member p xs (λ a m. h a (or_right _ _ m)))
-
-pub rises-filter : (p : ℕ → Bool) (low : ℕ) (xs : List ℕ) → RisesFrom low xs → RisesFrom low (filter p xs)
-rises-filter p low [] r = tt
-rises-filter p low (x ∷ xs) r = go (p x) (rises-filter p x xs r.1)
-  where
-    go : (b : Bool) → RisesFrom x (filter p xs) → RisesFrom low (cond b (x ∷ filter p xs) (filter p xs))
-    go true i = (r.0, i)
-    go false i = RisesFrom-lower low x (filter p xs) (let k : low < x = r.0 in omega arith) i
 
 no_items : (xs : List ℕ) → length xs ≤ 0 → xs ≡ []
 no_items [] h = refl
@@ -126,12 +117,12 @@ module _ (P : Ground) (program : IsProgram P) (normal : AreNormal P.rules) (part
   is-atom c a y h =
       let k : (0 < var a) × (var a ≤ first.vars) = place-in a (from_part c a h).0 in
       let l : var a ≤ first.vars = k.1 in
-      let u : first.vars ≤ base.vars = made.up in
+      let u : first.vars ≤ base.vars = made.grows.up in
       record {
         low = k.0;
         high = omega arith;
         own = has-digits c a y h;
-        rules = rows-over first.vars base.vars (part_width P part parts c) digits (component P part c) a made.up (λ b m. has-digits c b y m) P.rules (body_literals P) (body_literals-over P program.rules);
+        rules = rows-over first.vars base.vars (part_width P part parts c) digits (component P part c) a made.grows.up (λ b m. has-digits c b y m) P.rules (body_literals P) (body_literals-over P program.rules);
       }
 
   part-limits : (c : ℕ) (s : Stored) → members parts c ≡ true → base.vars ≤ s.vars → IsSound s
@@ -152,13 +143,13 @@ module _ (P : Ground) (program : IsProgram P) (normal : AreNormal P.rules) (part
       let t : Stored = after_atoms var digits (rows_at P part parts c) (atoms_of_part part c P.atoms) s in
       let i : Limits base.vars (atoms_vars (part_width P part parts c) (rows_at P part parts c) (atoms_of_part part c P.atoms)) (atoms_clauses (part_width P part parts c) (rows_at P part parts c) (atoms_of_part part c P.atoms)) (part_test P part parts c) s t =
       part-limits c s (f c (or_left _ _ (eq-eqb c c refl))) h x in
-      let up : s.vars ≤ t.vars = i.up in
+      let up : s.vars ≤ t.vars = i.grows.up in
       limits-compose base.vars (atoms_vars (part_width P part parts c) (rows_at P part parts c) (atoms_of_part part c P.atoms)) (atoms_clauses (part_width P part parts c) (rows_at P part parts c) (atoms_of_part part c P.atoms))
       (parts_vars P part parts cs) (parts_clauses P part parts cs) (part_test P part parts c) _ s t (after_parts P part parts cs t) i
-      (parts-limits cs t (λ d m. f d (or_right _ _ m)) (omega arith) i.sound)
+      (parts-limits cs t (λ d m. f d (or_right _ _ m)) (omega arith) i.grows.sound)
 
   pub limits : Limits base.vars (parts_vars P part parts parts) (parts_clauses P part parts parts) (λ A. list_all (λ c. part_test P part parts c A) parts) base last
-  limits = parts-limits parts base (λ c m. m) (omega arith) made.sound
+  limits = parts-limits parts base (λ c m. m) (omega arith) made.grows.sound
 
   -- ---- the tests of a component are its conditions
 
@@ -226,10 +217,10 @@ module _ (P : Ground) (program : IsProgram P) (normal : AreNormal P.rules) (part
   -- what holds wherever all clauses are true
   module _ (A : Set) (zero_is : A 0 ≡ false) (true_there : clauses_true last.hard A ≡ true) where
     base-true : clauses_true base.hard A ≡ true
-    base-true = limits.keeps A true_there
+    base-true = limits.grows.keeps A true_there
 
     first-true : clauses_true first.hard A ≡ true
-    first-true = made.keeps A base-true
+    first-true = made.grows.keeps A base-true
 
     supported : Supported P (atoms_at P.atoms A)
     supported = supported-from_clauses P program normal A zero_is first-true
@@ -264,10 +255,10 @@ module _ (P : Ground) (program : IsProgram P) (normal : AreNormal P.rules) (part
       go false p true q = sym p ∙ (e v (b v q).1 ∙ q)
 
   last-edges : last.edges ≡ []
-  last-edges = limits.edges ∙ (made.edges ∙ completed-edges P program)
+  last-edges = limits.grows.edges ∙ (made.grows.edges ∙ completed-edges P program)
 
   last-soft : last.soft ≡ []
-  last-soft = limits.soft ∙ (made.soft ∙ completed-soft P program)
+  last-soft = limits.grows.soft ∙ (made.grows.soft ∙ completed-soft P program)
 
   -- assignments that agree on the first variables say the same of the atoms
   same_atoms : (A B : Set) → A 0 ≡ B 0 → Agree first.vars A B → Same (atoms_at P.atoms A) (atoms_at P.atoms B)
@@ -296,7 +287,7 @@ module _ (P : Ground) (program : IsProgram P) (normal : AreNormal P.rules) (part
       let B : Set = some.0 in
       let same : Same (atoms_at P.atoms B) M = same_through A B M (same_atoms A B (zero_same first.vars base.vars A B found.1.over some.1) some.3) found.2 in
       let is : atoms_at P.atoms B ≡ M = fun_ext same in
-      let bodies : clauses_true (with_bodies P).hard B ≡ true = completed-bodies P program B (made.keeps B some.2) in
+      let bodies : clauses_true (with_bodies P).hard B ≡ true = completed-bodies P program B (made.grows.keeps B some.2) in
       let tests : list_all (λ c. part_test P part parts c B) parts ≡ true = all-member _ parts
       (λ c y. test-from_meets B bodies c y
       (subst (λ N. Meets (component P part c) (widths c) P.rules N (λ b. number_at B (digits b))) (sym is)
@@ -305,7 +296,7 @@ module _ (P : Ground) (program : IsProgram P) (normal : AreNormal P.rules) (part
       (conditions c y)))) in
       let whole : (C : Set) × IsAssignment last.vars C × (clauses_true last.hard C ≡ true) × Agree base.vars B C = limits.some B some.1 some.2 tests in
       let C : Set = whole.0 in
-      let up : first.vars ≤ base.vars = made.up in (
+      let up : first.vars ≤ base.vars = made.grows.up in (
         C,
         record {
           over = whole.1;

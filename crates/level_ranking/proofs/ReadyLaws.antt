@@ -1,38 +1,37 @@
 -- The lists that rankings are made from say of each atom of a cyclic component what the definitions say.
 use Rattle.std.proofs.lemmas.List.{get_or_read, length-map}
 use Rattle.clause_store.proofs.GateLaws.{literals-up}
-use Rattle.asp_base.proofs.Each.{each-weaker, each-get}
+use Rattle.asp_base.proofs.Each.{each-weaker}
 use Rattle.level_ranking.proofs.Supporting.{rank-up}
-use Rattle.std.proofs.Common.{◌≡◌, refl, sym, ◌∙◌, ap, ap₂, subst, subst₂, ℕ, zero, suc, ◌+◌, ◌-◌, ◌*◌, ◌≤◌, ◌<◌, ◌^◌, ◌==◌, Bool, true, false, cond, ◌||◌, List, [], ◌∷◌, ◌++◌, map, length, take, drop, get_or, filter, Option, arith}
+use Rattle.std.proofs.Common.{◌≡◌, refl, sym, ◌∙◌, ap, ap₂, subst, subst₂, ℕ, zero, suc, ◌+◌, ◌-◌, ◌*◌, ◌≤◌, ◌<◌, ◌^◌, ◌==◌, Bool, true, false, cond, ◌||◌, List, [], ◌∷◌, map, length, get_or, filter, Option, arith}
 use Rattle.std.specs.List.{AllByRecursion}
 use Rattle.std.proofs.lemmas.Bool.{true≢false, eqb-true}
 use Rattle.asp_base.specs.Literal.{Literal}
 use Rattle.asp_base.specs.Sets.{Set, members}
 use Rattle.graph_parts.specs.Divided.{is_cyclic_at}
-use Rattle.graph_parts.specs.Groups.{values_of, pair_at}
+use Rattle.graph_parts.specs.Groups.{values_of}
 use Rattle.rising_numbers.specs.Rising.{RisesFrom, place}
-use Rattle.ground_program.specs.Facts.{IsProgram, RuleFits, Among}
+use Rattle.ground_program.specs.Facts.{IsProgram}
 use Rattle.ground_program.specs.Ground.{Ground}
 use Rattle.rising_numbers.proofs.PlaceLaws.{place-within, length-rises}
-use Rattle.ground_program.specs.declared.program.Head.{Head}
-use Rattle.ground_program.specs.declared.program.Head.TheVariants.{Nothing, One, Choice}
 use Rattle.ground_program.specs.declared.program.Rule.{Rule}
 use Rattle.components.specs.Components.{number_of}
-use Rattle.components.specs.Divided.{Divided, cyclic_numbers}
+use Rattle.components.specs.Divided.{Divided, cyclic_numbers, part_of}
 use Rattle.clause_store.specs.Facts.{IsOver}
 use Rattle.clause_store.specs.Stored.{Stored}
 use Rattle.completion.specs.Completion.{body_literals, completed}
-use Rattle.completion.proofs.BodyLaws.{IsOverIfAny, body_literals-over, length-literals_of_rules}
+use Rattle.completion.proofs.BodyLaws.{IsOverIfAny, body_literals-over, length-literals_of_rules, IsOverIfAny-up}
 use Rattle.digit_gates.specs.DigitGates.{variables_from, less_vars}
-use Rattle.level_ranking.specs.Components.{AreParts, atoms_of_part, component, part_of}
+use Rattle.level_ranking.specs.Components.{AreParts, atoms_of_part, component}
 use Rattle.level_ranking.specs.Encoding.{inside, part_width, Row, digits_of, digits_at, with_digits, rows_of, rows_at, is_head, after_atom}
 use Rattle.level_ranking.specs.private.Counts.{support_vars, near_vars, atom_vars}
 use Rattle.level_ranking.specs.private.Pairs.{digits_in, CanRank}
 use Rattle.level_ranking.specs.private.Ready.{IsReady}
 use Rattle.level_ranking.specs.declared.gathering.Sources.{Sources}
-use Rattle.level_ranking.specs.private.Sources.{is_ranked, width_among, AreNumbered, digit_table, head_pairs, heads_from, rows_listed, placed}
+use Rattle.level_ranking.specs.private.Sources.{is_ranked, width_among, AreNumbered, digit_table, rows_listed, placed}
+use Rattle.completion.specs.Heads.{heads_from}
 use Rattle.components.specs.Parts.{ArePartsOf}
-use Rattle.level_ranking.proofs.AtomLaws.{HasDigits, IsOverIfAny-up, body-over}
+use Rattle.level_ranking.proofs.AtomLaws.{HasDigits, body-over}
 use Rattle.level_ranking.proofs.ComponentRanks.{inside-in_component}
 use Rattle.level_ranking.proofs.InsideLaws.{listed-are}
 use Rattle.level_ranking.proofs.RankedStore.{place-in, from_part, has-digits, made}
@@ -151,34 +150,6 @@ pub placed-near : (w : ℕ) (atoms : List ℕ) (rows : List Row) → near_vars w
 placed-near w atoms [] = refl
 placed-near w atoms (row ∷ rows) = ap₂ (λ k n. less_vars w * k + n) (length-map row.inside (λ b. place atoms b - 1)) (placed-near w atoms rows)
 
--- ---- the places of rules
-
-heads-below : (atoms : List ℕ) (rules : List Rule) (i m : ℕ) → i + length rules ≤ m → AllByRecursion (λ p. p.1 < m) (heads_from atoms i rules)
-heads-below atoms [] i m h = tt
-heads-below atoms (rule ∷ rules) i m h = go rule.head (heads-below atoms rules (suc i) m (omega arith))
-  where
-    go : (head : Head) → AllByRecursion (λ p. p.1 < m) (heads_from atoms (suc i) rules) → AllByRecursion (λ p. p.1 < m) (head_pairs atoms head i ++ heads_from atoms (suc i) rules)
-    go Nothing k = k
-    go (One a) k = (omega arith, k)
-    go (Choice as_) k = k
-
-values-below : (key m : ℕ) (pairs : List (ℕ × ℕ)) → AllByRecursion (λ p. p.1 < m) pairs → AllByRecursion (λ v. v < m) (values_of key pairs)
-values-below key m [] h = tt
-values-below key m (p ∷ pairs) h = go (p.0 == key) (values-below key m pairs h.1)
-  where
-    go : (t : Bool) → AllByRecursion (λ v. v < m) (values_of key pairs) → AllByRecursion (λ v. v < m) (map (λ q. q.1) (cond t (p ∷ filter (λ q. q.0 == key) pairs) (filter (λ q. q.0 == key) pairs)))
-    go true k = (h.0, k)
-    go false k = k
-
-pub heads-keys : (atoms : List ℕ) (rules : List Rule) (i : ℕ) → AllByRecursion (RuleFits (Among atoms)) rules → AllByRecursion (λ p. p.0 < length atoms) (heads_from atoms i rules)
-heads-keys atoms [] i f = tt
-heads-keys atoms (rule ∷ rules) i f = go rule.head f.0.0 (heads-keys atoms rules (suc i) f.1)
-  where
-    go : (head : Head) → Rattle.ground_program.specs.Facts.HeadFits (Among atoms) head → AllByRecursion (λ p. p.0 < length atoms) (heads_from atoms (suc i) rules) → AllByRecursion (λ p. p.0 < length atoms) (head_pairs atoms head i ++ heads_from atoms (suc i) rules)
-    go Nothing h k = k
-    go (One a) h k = ((let p = place-within atoms a h in omega arith), k)
-    go (Choice as_) h k = k
-
 -- ---- all together
 
 module _ (P : Ground) (program : IsProgram P) (d : Divided) (p : ArePartsOf P d) where
@@ -264,31 +235,15 @@ module _ (sources : Sources) (program : IsProgram sources.given.program.now) (re
 
       pub atom-can : AllByRecursion (CanRank (with_digits P (part_of d) (cyclic_numbers d)).vars (part_width P (part_of d) (cyclic_numbers d) c) numbers) (map (placed P.atoms) (rows_at P (part_of d) (cyclic_numbers d) c a))
       atom-can = rows-can (with_digits P (part_of d) (cyclic_numbers d)).vars (part_width P (part_of d) (cyclic_numbers d) c) numbers (digits_at P (part_of d) (cyclic_numbers d)) P.atoms (component P (part_of d) c)
-          number-stands (completed P).vars a (made P program ready.given.normal part parts are).up P.rules (body_literals P) (body_literals-over P program.rules)
+          number-stands (completed P).vars a (made P program ready.given.normal part parts are).grows.up P.rules (body_literals P) (body_literals-over P program.rules)
 
       pub atom-is : (s : Stored) → after_atom (place P.atoms a) (digits_at P (part_of d) (cyclic_numbers d) a) (digits_in numbers) (map (placed P.atoms) (rows_at P (part_of d) (cyclic_numbers d) c a)) s
           ≡ after_atom (place P.atoms a) (digits_at P (part_of d) (cyclic_numbers d) a) (digits_at P (part_of d) (cyclic_numbers d)) (rows_at P (part_of d) (cyclic_numbers d) c a) s
       atom-is s = atom-same (digits_in numbers) (digits_at P (part_of d) (cyclic_numbers d)) (place P.atoms a) (digits_at P (part_of d) (cyclic_numbers d) a) (map (placed P.atoms) (rows_at P (part_of d) (cyclic_numbers d) c a)) (rows_at P (part_of d) (cyclic_numbers d) c a) s
           (rows-same (with_digits P (part_of d) (cyclic_numbers d)).vars (part_width P (part_of d) (cyclic_numbers d) c) numbers (digits_at P (part_of d) (cyclic_numbers d)) P.atoms (component P (part_of d) c) number-stands a P.rules (body_literals P))
 
-      pub places-below : (places : List ℕ) → places ≡ values_of (place P.atoms a - 1) (heads_from P.atoms 0 P.rules) → (k : ℕ) → k < length places → get_or places k 0 < length P.rules
-      places-below places e k l = each-get (λ v. v < length P.rules) places k 0 l
-          (subst (AllByRecursion (λ v. v < length P.rules)) (sym e) (values-below (place P.atoms a - 1) (length P.rules) (heads_from P.atoms 0 P.rules) (heads-below P.atoms P.rules 0 (length P.rules) (omega arith))))
-
       -- what the call for the atom finds, at its place from 0
-      module _ (ss vs : List ℕ) (i : ℕ) (starts_are : ss ≡ starts) (values_were : vs ≡ values) (place_is : i ≡ place P.atoms a - 1) where
-        abbrev run : List ℕ
-        run = take (get_or ss (i + 1) 0 - get_or ss i 0) (drop (get_or ss i 0) vs)
-
-        run-is : take (get_or ss (i + 1) 0 - get_or ss i 0) (drop (get_or ss i 0) vs) ≡ values_of (place P.atoms a - 1) (heads_from P.atoms 0 P.rules)
-        run-is =
-            ap₂ (λ xs ys. take (get_or xs (i + 1) 0 - get_or xs i 0) (drop (get_or xs i 0) ys)) starts_are values_were
-            ∙ (ready.heads.each i (let q = place-within P.atoms a atom-among in omega arith)
-            ∙ ap (λ k. values_of k (heads_from P.atoms 0 P.rules)) place_is)
-
-        pub run-below : (k : ℕ) → k < length (take (get_or ss (i + 1) 0 - get_or ss i 0) (drop (get_or ss i 0) vs)) → get_or (take (get_or ss (i + 1) 0 - get_or ss i 0) (drop (get_or ss i 0) vs)) k 0 < length P.rules
-        run-below = places-below (take (get_or ss (i + 1) 0 - get_or ss i 0) (drop (get_or ss i 0) vs)) run-is
-
+      module _ (i : ℕ) (place_is : i ≡ place P.atoms a - 1) where
         pub place-low : i < length numbers
         place-low = let q = place-within P.atoms a atom-among in let l : length numbers ≡ length P.atoms = numbers-length in omega arith
 
@@ -296,10 +251,10 @@ module _ (sources : Sources) (program : IsProgram sources.given.program.now) (re
         place-var = let q = place-within P.atoms a atom-among in omega arith
 
         pub var-high : i + 1 ≤ (with_digits P (part_of d) (cyclic_numbers d)).vars
-        var-high = let q = place-in P program ready.given.normal part parts are a atom-among in let u : (completed P).vars ≤ (with_digits P (part_of d) (cyclic_numbers d)).vars = (made P program ready.given.normal part parts are).up in omega (arith, q.1, place-var)
+        var-high = let q = place-in P program ready.given.normal part parts are a atom-among in let u : (completed P).vars ≤ (with_digits P (part_of d) (cyclic_numbers d)).vars = (made P program ready.given.normal part parts are).grows.up in omega (arith, q.1, place-var)
 
         module _ (own : List Literal) (read : own ≡ get_or numbers i own) (rules : List Row)
-            (listed : rules ≡ map (placed P.atoms) (rows_listed (component P (part_of d) c) P.rules bodies (take (get_or ss (i + 1) 0 - get_or ss i 0) (drop (get_or ss i 0) vs)))) where
+            (listed : rules ≡ map (placed P.atoms) (rows_listed (component P (part_of d) c) P.rules bodies (values_of i (heads_from P.atoms 0 P.rules)))) where
           pub own-is : own ≡ digits_at P (part_of d) (cyclic_numbers d) a
           own-is = get_or_read numbers i own place-low read [] ∙ (ap (digits_in numbers) place_is ∙ (number-stands a inside_is).is)
 
@@ -307,7 +262,7 @@ module _ (sources : Sources) (program : IsProgram sources.given.program.now) (re
           own-has = subst (HasDigits (with_digits P (part_of d) (cyclic_numbers d)).vars (part_width P (part_of d) (cyclic_numbers d) c)) (sym own-is) (number-stands a inside_is).has
 
           pub rules-are : rules ≡ map (placed P.atoms) (rows_at P (part_of d) (cyclic_numbers d) c a)
-          rules-are = listed ∙ ap (map (placed P.atoms)) (ap (rows_listed (component P (part_of d) c) P.rules bodies) run-is ∙ values-are)
+          rules-are = listed ∙ ap (map (placed P.atoms)) (ap (λ k. rows_listed (component P (part_of d) c) P.rules bodies (values_of k (heads_from P.atoms 0 P.rules))) place_is ∙ values-are)
 
           pub own-some : 0 < length own
           own-some = subst (λ n. 0 < n) (sym own-has.count) some-width
@@ -329,6 +284,3 @@ module _ (sources : Sources) (program : IsProgram sources.given.program.now) (re
               ≡ after_atom (place P.atoms a) (digits_at P (part_of d) (cyclic_numbers d) a) (digits_at P (part_of d) (cyclic_numbers d)) (rows_at P (part_of d) (cyclic_numbers d) c a) s
           own-after s = ap₂ (λ v r. after_atom v r (digits_in numbers) rules s) place-var own-is
               ∙ (ap (λ rs. after_atom (place P.atoms a) (digits_at P (part_of d) (cyclic_numbers d) a) (digits_in numbers) rs s) rules-are ∙ atom-is s)
-
-pub each-pair : (n : ℕ) (pairs : List (ℕ × ℕ)) → AllByRecursion (λ p. p.0 < n) pairs → (j : ℕ) → j < length pairs → (pair_at pairs j).0 < n
-each-pair n pairs h j l = each-get (λ p. p.0 < n) pairs j (0, 0) l h

@@ -11,18 +11,17 @@ use Rattle.ground_program.specs.declared.program.Head.TheVariants.{Nothing, One,
 use Rattle.ground_program.specs.declared.program.Body.{Body}
 use Rattle.ground_program.specs.declared.program.Body.TheVariants.{All, Sum}
 use Rattle.ground_program.specs.declared.program.Rule.{Rule}
-use Rattle.clause_store.specs.Models.{all_true, clauses_true}
+use Rattle.clause_store.specs.Models.{clauses_true}
 use Rattle.clause_store.specs.Stored.{Stored}
 use Rattle.ground_program.specs.Occurrences.{over_variables}
-use Rattle.completion.specs.Completion.{atoms_at, literals_of, inputs_of, body_literal, after_body, after_head, head_literal, after_rules, literals_of_rules, is_empty}
-use Rattle.ground_program.specs.Normal.{IsNormalHead, IsNormalBody, AreNormal}
-use Rattle.completion.proofs.CompletionLaws.{Done, body_true, BodySays, after_body-says, inputs-up, Ready, Ready-next, after_rules-done}
-use Rattle.completion.proofs.Places.{all_true-over}
-use Rattle.completion.proofs.BodyLaws.{IsOverIfAny}
+use Rattle.completion.specs.Completion.{atoms_at, inputs_of, body_literal, after_body, after_head, head_literal, after_rules, literals_of_rules, is_empty}
+use Rattle.ground_program.specs.Normal.{literals_of, IsNormalHead, IsNormalBody, AreNormal}
+use Rattle.completion.proofs.CompletionLaws.{holds-inputs, Done, body_true, BodySays, after_body-says, inputs-up, Ready, Ready-next, after_rules-done}
+use Rattle.completion.proofs.BodyLaws.{IsOverIfAny, IsOverIfAny-up}
 use Rattle.level_ranking.proofs.Conditions.{is_empty_body}
 use Rattle.level_ranking.specs.Encoding.{inside, Row, is_head, rows_of}
 use Rattle.level_ranking.proofs.ComponentRanks.{inside-in_component}
-use Rattle.level_ranking.proofs.AtomLaws.{HasDigits, IsRow, IsOverIfAny-up}
+use Rattle.level_ranking.proofs.AtomLaws.{HasDigits, IsRow}
 
 -- the literal of a rule with a head is true just where its body holds, and there is none just where it is empty
 pub record SaysBody (A M : Set) (rule : Rule) (body : Option Literal) : Type 0 where
@@ -38,10 +37,6 @@ empty-says : (atoms : List ℕ) (body : Body) (s : Stored) → IsNormalBody body
 empty-says atoms (All []) s n = refl
 empty-says atoms (All (l ∷ lits)) s n = refl
 empty-says atoms (Sum bound items) s n = absurd n
-
-holds-inputs : (atoms : List ℕ) (body : Body) (A : Set) → IsNormalBody body → all_true (map (over_variables atoms) (literals_of body)) A ≡ holds body (atoms_at atoms A) (atoms_at atoms A)
-holds-inputs atoms (All lits) A n = all_true-over atoms lits A
-holds-inputs atoms (Sum bound items) A n = absurd n
 
 pub bodies-say : (atoms : List ℕ) (rules : List Rule) (s : Stored) (A : Set) → AreNormal rules → AllByRecursion (RuleFits (Among atoms)) rules → Ready atoms s
     → clauses_true (after_rules atoms rules s).hard A ≡ true → BodiesSay A (atoms_at atoms A) rules (literals_of_rules atoms rules s)

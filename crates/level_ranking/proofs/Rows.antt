@@ -1,26 +1,18 @@
 -- Rankings of small programs, by computation.
-use Rattle.std.proofs.Common.{◌≡◌, refl, ℕ, true, false, List, [], ◌∷◌, filter, cond, ◌==◌}
+use Rattle.std.proofs.Common.{◌≡◌, refl, true, false, [], ◌∷◌, filter, cond, ◌==◌}
 use Rattle.gate_tables.specs.Rows.{all_values}
 use Rattle.clause_store.specs.Assigned.{true_in}
 use Rattle.clause_store.specs.Models.{clauses_true}
-use Rattle.asp_base.specs.Literal.{Literal, Pos, Neg}
+use Rattle.asp_base.specs.Literal.{Pos, Neg}
 use Rattle.asp_base.specs.Sets.{members}
 use Rattle.ground_program.specs.Ground.{Ground}
-use Rattle.ground_program.specs.declared.program.Head.TheVariants.{One}
-use Rattle.ground_program.specs.declared.program.Body.TheVariants.{All}
-use Rattle.ground_program.specs.declared.program.Rule.{Rule}
+use Rattle.ground_program.proofs.Rows.{of_rules, normal}
 use Rattle.level_ranking.specs.Ranking.{rank}
 use Rattle.ground_program.specs.Digits.{digits}
 use Rattle.level_ranking.specs.Encoding.{digits_at, with_rankings}
 
-abbrev of_rules : List ℕ → List Rule → Ground
-of_rules atoms rules = record { atoms = atoms; rules = rules; required = []; edges = []; levels = []; shows = [] }
-
-abbrev rule : ℕ → List Literal → Rule
-rule a lits = record { head = One a; body = All lits }
-
 -- a :- a. With the digit 2, the comparisons 3 and 5 and the support 4
-self_loop : (with_rankings (of_rules (1 ∷ []) (rule 1 (Pos 1 ∷ []) ∷ [])) (λ a. 1) (1 ∷ [])).hard
+self_loop : (with_rankings (of_rules (1 ∷ []) (normal 1 (Pos 1 ∷ []) ∷ [])) (λ a. 1) (1 ∷ [])).hard
     ≡ (Neg 1 ∷ Pos 1 ∷ []) ∷ (Pos 1 ∷ Neg 1 ∷ [])
     ∷ (Pos 1 ∷ Neg 2 ∷ []) ∷ (Neg 1 ∷ Pos 2 ∷ [])
     ∷ (Pos 2 ∷ Neg 3 ∷ []) ∷ (Pos 2 ∷ Neg 3 ∷ []) ∷ (Neg 2 ∷ Neg 2 ∷ Pos 3 ∷ [])
@@ -32,14 +24,14 @@ unfolding digits
 self_loop = refl
 
 -- in its one model a is false, since {a} is supported, but not founded
-self_loop-models : filter (λ values. clauses_true (with_rankings (of_rules (1 ∷ []) (rule 1 (Pos 1 ∷ []) ∷ [])) (λ a. 1) (1 ∷ [])).hard (true_in values)) (all_values 5)
+self_loop-models : filter (λ values. clauses_true (with_rankings (of_rules (1 ∷ []) (normal 1 (Pos 1 ∷ []) ∷ [])) (λ a. 1) (1 ∷ [])).hard (true_in values)) (all_values 5)
     ≡ (false ∷ false ∷ false ∷ false ∷ true ∷ []) ∷ []
 unfolding digits
 self_loop-models = refl
 
 -- a :- c. a :- b. b :- a. with a choice of c by its complement d
 abbrev pair : Ground
-pair = of_rules (1 ∷ 2 ∷ 3 ∷ 4 ∷ []) (rule 3 (Neg 4 ∷ []) ∷ rule 4 (Neg 3 ∷ []) ∷ rule 1 (Pos 3 ∷ []) ∷ rule 1 (Pos 2 ∷ []) ∷ rule 2 (Pos 1 ∷ []) ∷ [])
+pair = of_rules (1 ∷ 2 ∷ 3 ∷ 4 ∷ []) (normal 3 (Neg 4 ∷ []) ∷ normal 4 (Neg 3 ∷ []) ∷ normal 1 (Pos 3 ∷ []) ∷ normal 1 (Pos 2 ∷ []) ∷ normal 2 (Pos 1 ∷ []) ∷ [])
 
 pair-first : rank (1 ∷ 2 ∷ []) pair.rules (members (1 ∷ 2 ∷ 3 ∷ [])) 1 ≡ 1
 pair-first = refl
@@ -49,7 +41,7 @@ pair-second = refl
 
 -- a cycle of four with one way in
 abbrev four : Ground
-four = of_rules (1 ∷ 2 ∷ 3 ∷ 4 ∷ 5 ∷ []) (rule 5 [] ∷ rule 1 (Pos 5 ∷ []) ∷ rule 1 (Pos 4 ∷ []) ∷ rule 2 (Pos 1 ∷ []) ∷ rule 3 (Pos 2 ∷ []) ∷ rule 4 (Pos 3 ∷ []) ∷ [])
+four = of_rules (1 ∷ 2 ∷ 3 ∷ 4 ∷ 5 ∷ []) (normal 5 [] ∷ normal 1 (Pos 5 ∷ []) ∷ normal 1 (Pos 4 ∷ []) ∷ normal 2 (Pos 1 ∷ []) ∷ normal 3 (Pos 2 ∷ []) ∷ normal 4 (Pos 3 ∷ []) ∷ [])
 
 four-last : rank (1 ∷ 2 ∷ 3 ∷ 4 ∷ []) four.rules (members (1 ∷ 2 ∷ 3 ∷ 4 ∷ 5 ∷ [])) 4 ≡ 4
 four-last = refl

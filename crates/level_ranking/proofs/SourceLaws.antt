@@ -1,30 +1,25 @@
 -- The numbers of the cyclic components, and the atoms of literals in a component.
-use Rattle.std.proofs.Common.{◌≡◌, refl, sym, ◌∙◌, ap, ℕ, zero, suc, ◌+◌, ◌≤◌, ◌<◌, ◌==◌, Bool, true, false, cond, ◌&&◌, List, [], ◌∷◌, ⊎_elim, arith}
+use Rattle.std.proofs.Common.{◌≡◌, refl, sym, ◌∙◌, ap, ℕ, zero, suc, ◌+◌, ◌≤◌, ◌<◌, ◌==◌, true, false, cond, ◌&&◌, List, [], ◌∷◌, ⊎_elim, arith}
 use Rattle.std.specs.List.{range_with_len}
-use Rattle.std.proofs.lemmas.Bool.{true≢false, eqb-true, eq-eqb, cases_lt, and_parts, and_from, or_cases, or_left, or_right}
+use Rattle.std.proofs.lemmas.Bool.{true≢false, eqb-true, eq-eqb, and_parts, and_from, or_cases}
 use Rattle.asp_base.specs.Literal.{Literal, Pos, Neg, atom_of, is_positive}
 use Rattle.asp_base.specs.Sets.{members}
+use Rattle.asp_base.proofs.Bools.{and_false}
 use Rattle.graph_parts.specs.Divided.{is_cyclic_at}
 use Rattle.rising_numbers.specs.Rising.{RisesFrom}
-use Rattle.components.specs.Divided.{Divided, cyclic_numbers}
-use Rattle.level_ranking.specs.Components.{atoms_of_part, part_of}
+use Rattle.rising_numbers.proofs.RisingLaws.{rises-filter}
+use Rattle.ground_program.proofs.GapLaws.{range-has}
+use Rattle.ground_program.proofs.Plain.{members-filter}
+use Rattle.components.specs.Divided.{Divided, cyclic_numbers, part_of}
+use Rattle.level_ranking.specs.Components.{atoms_of_part}
 use Rattle.level_ranking.specs.Encoding.{positive_in}
 use Rattle.level_ranking.specs.private.Sources.{is_ranked, AreNumbered}
-use Rattle.level_ranking.proofs.ComponentRanks.{members-filter}
-use Rattle.level_ranking.proofs.RankedStore.{rises-filter}
 
 -- ---- cyclic components
 
 range-rises : (n k low : ℕ) → low < n → RisesFrom low (range_with_len n k)
 range-rises n zero low h = tt
 range-rises n (suc k) low h = (h, range-rises (n + 1) k n (omega arith))
-
-range-has : (n k c : ℕ) → n ≤ c → c < n + k → members (range_with_len n k) c ≡ true
-range-has n zero c low high = absurd (omega arith)
-range-has n (suc k) c low high = ⊎_elim
-    (λ above. or_right _ _ (range-has (n + 1) k c (omega arith) (omega arith)))
-    (λ same. or_left _ _ (eq-eqb n c (omega arith)))
-    (cases_lt n c)
 
 range-within : (n k c : ℕ) → members (range_with_len n k) c ≡ true → (n ≤ c) × (c < n + k)
 range-within n zero c m = absurd (true≢false (sym m))
@@ -39,7 +34,7 @@ cyclic-rises d = rises-filter (λ i. is_cyclic_at d.cyclic i) 0 (range_with_len 
 pub members-cyclic : (d : Divided) (c : ℕ) → 1 ≤ c → c ≤ d.count → members (cyclic_numbers d) c ≡ is_cyclic_at d.cyclic c
 members-cyclic d c low high =
     members-filter (λ i. is_cyclic_at d.cyclic i) (range_with_len 1 d.count) c
-    ∙ ap (λ b. b && is_cyclic_at d.cyclic c) (range-has 1 d.count c low (omega arith))
+    ∙ ap (λ b. b && is_cyclic_at d.cyclic c) (range-has d.count 1 c low (omega arith))
 
 -- a number of a cyclic component
 pub from_cyclic : (d : Divided) (c : ℕ) → members (cyclic_numbers d) c ≡ true → (1 ≤ c) × (c ≤ d.count) × (is_cyclic_at d.cyclic c ≡ true)
@@ -62,11 +57,7 @@ inside-true part atoms c (Pos a) p m e = ap (λ b. cond b (a ∷ []) []) (member
 pub inside-other : (part : ℕ → ℕ) (atoms : List ℕ) (c : ℕ) (l : Literal) → (part (atom_of l) == c) ≡ false
     → positive_in (members (atoms_of_part part c atoms)) (l ∷ []) ≡ []
 inside-other part atoms c (Neg a) e = refl
-inside-other part atoms c (Pos a) e = ap (λ b. cond b (a ∷ []) []) (members-filter (λ b. part b == c) atoms a ∙ (ap (λ t. members atoms a && t) e ∙ off (members atoms a)))
-  where
-    off : (b : Bool) → (b && false) ≡ false
-    off true = refl
-    off false = refl
+inside-other part atoms c (Pos a) e = ap (λ b. cond b (a ∷ []) []) (members-filter (λ b. part b == c) atoms a ∙ (ap (λ t. members atoms a && t) e ∙ and_false (members atoms a)))
 
 pub inside-negative : (part : ℕ → ℕ) (atoms : List ℕ) (c : ℕ) (l : Literal) → is_positive l ≡ false → positive_in (members (atoms_of_part part c atoms)) (l ∷ []) ≡ []
 inside-negative part atoms c (Pos a) p = absurd (true≢false p)

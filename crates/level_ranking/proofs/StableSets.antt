@@ -1,18 +1,14 @@
 -- Without edges the founded sets are the stable models.
-use Rattle.std.proofs.Common.{◌≡◌, sym, subst, ℕ, List, [], ◌∷◌}
-use Rattle.std.proofs.lemmas.Bool.{true≢false}
+use Rattle.std.proofs.Common.{◌≡◌, sym, subst, ℕ, List, []}
 use Rattle.asp_base.specs.Sets.{Set}
 use Rattle.asp_base.specs.Walks.{Acyclic}
 use Rattle.ground_program.specs.Ground.{Ground}
 use Rattle.ground_program.specs.Stable.{Founded, Stable, joined}
+use Rattle.ground_program.proofs.Negative.{Acyclic-no_edges}
 use Rattle.clause_store.specs.Clauses.{Clauses}
 use Rattle.completion.specs.Completion.{atoms_at}
 use Rattle.completion.specs.Supported.{HasStable}
 use Rattle.level_ranking.specs.Ranked.{HasFounded}
-
-Acyclic-no_edges : (M : Set) → Acyclic (joined [] M)
-Acyclic-no_edges M node [] walk = true≢false (sym walk)
-Acyclic-no_edges M node (next ∷ rest) walk = true≢false (sym walk.0)
 
 stable-from_founded : (P : Ground) (M : Set) → P.edges ≡ [] → Founded P M → Stable P M
 stable-from_founded P M none founded = record {

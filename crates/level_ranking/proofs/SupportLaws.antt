@@ -10,13 +10,14 @@ use Rattle.clause_store.proofs.GateLaws.{literals-up, conjunction-is}
 use Rattle.clause_store.proofs.AddLaws.{conjunction-adds}
 use Rattle.digit_gates.specs.DigitGates.{less_vars}
 use Rattle.level_ranking.specs.Encoding.{Row, body_list, after_compared, compared, support_inputs}
-use Rattle.level_ranking.specs.private.Pairs.{with_each, digits_in, CanSupport}
+use Rattle.level_ranking.specs.declared.comparisons.First.TheVariants.{Own}
+use Rattle.level_ranking.specs.private.Pairs.{paired, digits_in, CanSupport}
 use Rattle.level_ranking.proofs.CompareLaws.{AreCompared, compared-are}
-use Rattle.level_ranking.proofs.Pushed.{length-with_each}
+use Rattle.level_ranking.proofs.Pushed.{length-paired}
 
 module _ (x : List Literal) (digits : List (List Literal)) (row : Row) (s : Stored) (sound : IsSound s) (can : CanSupport s.vars x digits row) where
   abbrev pairs : List (List Literal × List Literal)
-  pairs = with_each x digits row.inside
+  pairs = paired Own x digits row.inside
 
   are : AreCompared (length x) pairs s (after_compared pairs s) (compared pairs s)
   are = compared-are (length x) pairs s sound can.below
@@ -26,7 +27,7 @@ module _ (x : List Literal) (digits : List (List Literal)) (row : Row) (s : Stor
       (literals-up s.vars (after_compared pairs s).vars are.adds.extends.vars (body_list row.body) can.body) are.over
 
   pub support-vars : (after_compared pairs s).vars ≤ s.vars + less_vars (length x) * length row.inside
-  support-vars = subst (λ n. (after_compared pairs s).vars ≤ s.vars + less_vars (length x) * n) (length-with_each x digits row.inside) are.adds.vars
+  support-vars = subst (λ n. (after_compared pairs s).vars ≤ s.vars + less_vars (length x) * n) (length-paired Own x digits row.inside) are.adds.vars
 
   abbrev inputs : List Literal
   inputs = support_inputs x (digits_in digits) row s

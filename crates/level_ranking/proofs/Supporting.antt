@@ -11,15 +11,16 @@ use Rattle.asp_base.proofs.Each.{each-weaker, each-append}
 use Rattle.digit_gates.specs.DigitGates.{less_vars}
 use Rattle.level_ranking.specs.private.Counts.{support_vars}
 use Rattle.level_ranking.specs.Encoding.{Row, body_list, support, after_support, supports_in, after_supports}
-use Rattle.level_ranking.specs.private.Pairs.{IsPair, with_each, each_with, digits_in, CanSupport, CanRank}
+use Rattle.level_ranking.specs.declared.comparisons.First.TheVariants.{Own, Other}
+use Rattle.level_ranking.specs.private.Pairs.{IsPair, paired, digits_in, CanSupport, CanRank}
 use Rattle.level_ranking.proofs.CompareLaws.{pair-up}
 
 pub can-up : (m n : ℕ) (x : List Literal) (digits : List (List Literal)) (row : Row) → m ≤ n → CanSupport m x digits row → CanSupport n x digits row
 can-up m n x digits row h c = record {
   body = literals-up m n h (body_list row.body) c.body;
   places = c.places;
-  below = pair-up (length x) m n h (with_each x digits row.inside) c.below;
-  near = pair-up (length x) m n h (each_with x digits row.inside) c.near;
+  below = pair-up (length x) m n h (paired Own x digits row.inside) c.below;
+  near = pair-up (length x) m n h (paired Other x digits row.inside) c.near;
 }
 
 pub record Supporting (x : List Literal) (digits : List (List Literal)) (rules : List Row) (first now : Stored) (start supports : List Literal) (i : ℕ) : Type 0 where
@@ -84,11 +85,11 @@ can-support n x digits row some o c = record {
   near = near row.inside c.counts c.over;
 }
   where
-    below : (places : List ℕ) → AllByRecursion (λ i. length (digits_in digits i) ≡ length x) places → AllByRecursion (λ i. AllByRecursion (IsOver n) (digits_in digits i)) places → AllByRecursion (IsPair (length x) n) (with_each x digits places)
+    below : (places : List ℕ) → AllByRecursion (λ i. length (digits_in digits i) ≡ length x) places → AllByRecursion (λ i. AllByRecursion (IsOver n) (digits_in digits i)) places → AllByRecursion (IsPair (length x) n) (paired Own x digits places)
     below [] e k = tt
     below (i ∷ places) e k = (record { some = some; first = refl; second = e.0; over_first = o; over_second = k.0 }, below places e.1 k.1)
 
-    near : (places : List ℕ) → AllByRecursion (λ i. length (digits_in digits i) ≡ length x) places → AllByRecursion (λ i. AllByRecursion (IsOver n) (digits_in digits i)) places → AllByRecursion (IsPair (length x) n) (each_with x digits places)
+    near : (places : List ℕ) → AllByRecursion (λ i. length (digits_in digits i) ≡ length x) places → AllByRecursion (λ i. AllByRecursion (IsOver n) (digits_in digits i)) places → AllByRecursion (IsPair (length x) n) (paired Other x digits places)
     near [] e k = tt
     near (i ∷ places) e k = (record { some = subst (λ m. 0 < m) (sym e.0) some; first = e.0; second = refl; over_first = k.0; over_second = o }, near places e.1 k.1)
 

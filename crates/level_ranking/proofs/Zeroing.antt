@@ -5,10 +5,10 @@ use Rattle.std.proofs.lemmas.List.{drop_all, append-nil}
 use Rattle.std.specs.List.{AllByRecursion}
 use Rattle.asp_base.specs.Literal.{Literal, negation}
 use Rattle.clause_store.specs.Facts.{IsOver}
-use Rattle.clause_store.specs.Stored.{Stored, with_clause}
+use Rattle.clause_store.specs.Stored.{Stored, with_clause, with_clauses}
 use Rattle.asp_base.proofs.Each.{each-get, each-append}
 use Rattle.clause_store.proofs.GateLaws.{negation-over}
-use Rattle.level_ranking.specs.Encoding.{with_clauses, body_list, negated_body}
+use Rattle.level_ranking.specs.Encoding.{body_list, negated_body}
 
 abbrev pub zero_clause : Option Literal → Literal → List Literal
 zero_clause body l = negated_body body ++ (negation l ∷ [])

@@ -8,8 +8,6 @@ use Rattle.graph_parts.specs.Parts.{Together}
 use Rattle.ground_program.specs.Dependencies.{depends}
 use Rattle.ground_program.specs.Ground.{Ground}
 use Rattle.ground_program.specs.declared.program.Rule.{Rule}
-use Rattle.components.specs.Components.{number_of}
-use Rattle.components.specs.Divided.{Divided}
 
 -- Atoms have one number where they are in one strongly connected component of the dependencies. A
 -- component depends on lower ones and itself alone; the cyclic ones are those with atoms that reach
@@ -28,7 +26,3 @@ atoms_of_part part c atoms = filter (λ a. part a == c) atoms
 
 abbrev pub component : Ground → (ℕ → ℕ) → ℕ → Set
 component P part c = members (atoms_of_part part c P.atoms)
-
--- the number of an atom's component, as `components` finds it
-abbrev pub part_of : Divided → ℕ → ℕ
-part_of d a = number_of d.atoms d.numbers a

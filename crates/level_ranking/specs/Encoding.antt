@@ -1,10 +1,10 @@
 -- Strong level rankings as clauses: binary digits for each atom of a cyclic component, and gates
 -- that compare them (T. Janhunen and I. Niemelä, Compact translations of non-disjunctive answer set
 -- programs to propositional clauses, 2011).
-use Rattle.std.specs.Prelude.{ℕ, ◌+◌, Bool, false, cond, not, ◌==◌, List, [], ◌∷◌, ◌++◌, map, length, drop, Option, Some, None}
+use Rattle.std.specs.Prelude.{ℕ, ◌+◌, Bool, false, cond, ◌==◌, List, [], ◌∷◌, ◌++◌, map, length, drop, Option, Some, None}
 use Rattle.std.specs.List.{list_any, filter}
 use Rattle.asp_base.specs.Literal.{Literal, Pos, Neg, negation}
-use Rattle.asp_base.specs.Sets.{Set, members}
+use Rattle.asp_base.specs.Sets.{Set, members, once}
 use Rattle.rising_numbers.specs.Rising.{place}
 use Rattle.ground_program.specs.Digits.{digits}
 use Rattle.ground_program.specs.Ground.{Ground}
@@ -13,13 +13,10 @@ use Rattle.ground_program.specs.declared.program.Body.TheVariants.{All, Sum}
 use Rattle.ground_program.specs.declared.program.Head.{Head}
 use Rattle.ground_program.specs.declared.program.Head.TheVariants.{Nothing, One, Choice}
 use Rattle.ground_program.specs.declared.program.Rule.{Rule}
-use Rattle.clause_store.specs.Stored.{Stored, with_clause, conjunction, after_conjunction}
+use Rattle.clause_store.specs.Stored.{Stored, with_clause, with_clauses, conjunction, after_conjunction}
 use Rattle.completion.specs.Completion.{is_empty, body_literals, completed}
 use Rattle.digit_gates.specs.DigitGates.{with_variables, variables_from, after_predecessor, predecessor_digits, after_less, less_output}
 use Rattle.level_ranking.specs.Components.{atoms_of_part, component}
-
-abbrev pub with_clauses : List (List Literal) → Stored → Stored
-with_clauses clauses s = record s { hard = s.hard ++ clauses }
 
 -- ---- digits
 
@@ -54,11 +51,6 @@ positive_in S (Neg b ∷ lits) = positive_in S lits
 abbrev pub body_in : Set → Body → List ℕ
 body_in S (All lits) = positive_in S lits
 body_in S (Sum bound items) = []
-
--- each number where it stands first
-abbrev pub once : List ℕ → List ℕ
-once [] = []
-once (x ∷ xs) = x ∷ filter (λ y. not (x == y)) (once xs)
 
 -- the positive atoms of a rule's body in the component, each once
 abbrev pub inside : Set → Rule → List ℕ

@@ -2,55 +2,28 @@
 //! each once. A rule is looked up when its head's turn comes, so that no more than one atom's rules are held. Linear in
 //! the rules, but for the hashing of the atoms of one body.
 
-ghost use Rattle.std.specs.Prelude.{◌≡◌, ◌+◌, ◌-◌, ◌<◌, ◌≤◌, ◌^◌, ◌++◌, ◌∷◌, [], true, cond, map, length, slice_index, EachIndex, MatchOption, IfOk, OnOk};
+ghost use Rattle.std.specs.Prelude.{◌≡◌, ◌+◌, ◌-◌, ◌<◌, ◌∷◌, [], true, map, length, MatchOption, IfOk, OnOk};
 ghost use Rattle.std.specs.List.{AllByRecursion};
 ghost use Rattle.asp_base.specs.Literal.{atom_of};
-ghost use Rattle.asp_base.specs.Sets.{members};
+ghost use Rattle.asp_base.specs.Sets.{members, once};
 ghost use Rattle.rising_numbers.specs.Rising.{place};
-ghost use Rattle.ground_program.specs.Facts.{Among, HeadFits, RuleFits};
-ghost use Rattle.completion.specs.Completion.{literals_of};
-ghost use Rattle.level_ranking.specs.Encoding.{once, positive_in};
-ghost use Rattle.level_ranking.specs.Components.{atoms_of_part, component, part_of};
+ghost use Rattle.graph_parts.specs.Groups.{values_of};
+ghost use Rattle.ground_program.specs.Facts.{Among};
+ghost use Rattle.level_ranking.specs.Encoding.{positive_in};
+ghost use Rattle.level_ranking.specs.Components.{atoms_of_part, component};
+ghost use Rattle.components.specs.Divided.{part_of};
 ghost use Rattle.level_ranking.specs.private.Ready.{IsReady};
-ghost use Rattle.level_ranking.specs.private.Sources.{AreNumbered, head_pairs, heads_from, placed, rows_listed, with_once};
+ghost use Rattle.level_ranking.specs.private.Sources.{placed, rows_listed, with_once};
+ghost use Rattle.completion.specs.Heads.{heads_from};
 
 use crate::rules::RankedRule;
 use asp_base::{Lit, Memory};
-use completion::{Bodies, literals};
-use components::{Parts, node_of};
+use completion::Bodies;
+use components::Parts;
 use graph_parts::Groups;
-use ground_program::{Atoms, Head, LitList, Program, Rule};
+use ground_program::{Atoms, LitList, Program, literals};
 use indexmap::IndexSet;
 use std::alloc::Global;
-
-/// Adds the place of a head, from 0, with that of its rule.
-fn push_head(
-    pairs: &mut Vec<(u32, u32)>,
-    atoms: &Atoms,
-    head: &Head,
-    place: u32,
-) -> Result<(), Memory>
-    requires { HeadFits (Among atoms.now) head.now }
-    ensures { OnOk result (pairs.new.items ≡ pairs.old.items ++ head_pairs atoms.now head.now place) }
-{
-    if let Head::One(atom) = head {
-        pairs.push((node_of(atoms, *atom), place))?;
-    }
-    Ok(())
-}
-
-/// The places of the heads, from 0, with those of their rules.
-pub(crate) fn heads(alloc: Global, atoms: &Atoms, rules: &[Rule]) -> Result<Vec<(u32, u32)>, Memory>
-    requires fit { AllByRecursion (RuleFits (Among atoms.now)) rules.now }
-    requires few { length rules.now < 2 ^ 32 }
-    ensures { IfOk result (λ pairs. pairs.items ≡ heads_from atoms.now 0 rules.now) }
-{
-    let mut pairs = Vec::new(alloc);
-    for (i, rule) in rules.iter().enumerate() {
-        push_head(&mut pairs, atoms, &rule.head, i as u32)?;
-    }
-    Ok(pairs)
-}
 
 /// The atom of a positive literal, where it is in the component.
 fn atom_inside(parts: &Parts, part: u64, lit: Lit) -> Option<u32>
@@ -155,19 +128,24 @@ fn ranked_rule(
     Ok(RankedRule { body, inside })
 }
 
-/// The rules at these places, as rules of an atom of the component.
+/// The rules of the atom at a place, from 0, as rules of an atom of the component.
 pub(crate) fn ranked_rules(
     alloc: Global,
     sources: &Sources<'_>,
     part: u64,
-    places: &[u32],
+    index: u32,
 ) -> Result<Vec<RankedRule>, Memory>
     requires ready { IsReady sources.now }
-    requires within { EachIndex places.now (λ j. slice_index places.now j < length sources.now.given.program.now.rules) }
+    requires within { index < length sources.now.given.program.now.atoms }
     ensures { IfOk result (λ rows. let P = sources.now.given.program.now in
         let S = component P (part_of sources.now.given.parts.now) part in
-        rows.items ≡ map (placed P.atoms) (rows_listed S P.rules sources.now.given.bodies.now places.now)) }
+        rows.items ≡ map (placed P.atoms) (rows_listed S P.rules sources.now.given.bodies.now
+        (values_of index (heads_from P.atoms 0 P.rules)))) }
 {
+    let at = index as usize;
+    let starts = sources.heads.starts.as_slice();
+    let values = sources.heads.values.as_slice();
+    let places = &values[starts[at] as usize..starts[at + 1] as usize];
     let mut rows = Vec::new(alloc);
     for place in places {
         let row = ranked_rule(alloc, sources, part, *place)?;

@@ -1,14 +1,15 @@
 //! The digits of the atoms of cyclic components: so many for each atom as its component's number of atoms has, with
 //! clauses that they are all 0 just where the atom is false.
 
-ghost use Rattle.std.specs.Prelude.{◌≡◌, ◌+◌, ◌*◌, ◌<◌, ◌≤◌, ◌^◌, ◌++◌, ◌∷◌, [], true, false, cond, length, MatchOption, IfOk, OnOk};
+ghost use Rattle.std.specs.Prelude.{◌≡◌, ◌+◌, ◌*◌, ◌<◌, ◌≤◌, ◌^◌, [], true, false, cond, length, MatchOption, IfOk, OnOk};
 ghost use Rattle.std.specs.List.{AllByRecursion, filter};
 ghost use Rattle.asp_base.specs.Sets.{members};
 ghost use Rattle.rising_numbers.specs.Rising.{place};
 ghost use Rattle.clause_store.specs.Facts.{IsOver};
-ghost use Rattle.level_ranking.specs.Encoding.{with_clauses, digit_clauses, after_atom_digits, after_digits};
+ghost use Rattle.level_ranking.specs.Encoding.{digit_clauses, after_atom_digits, after_digits};
+ghost use Rattle.clause_store.specs.Stored.{with_clauses};
 ghost use Rattle.digit_gates.specs.DigitGates.{variables_from};
-ghost use Rattle.level_ranking.specs.Components.{part_of};
+ghost use Rattle.components.specs.Divided.{part_of};
 ghost use Rattle.level_ranking.specs.private.Sources.{is_ranked, width_among, AreNumbered, digit_table};
 
 use asp_base::{Lit, Memory};

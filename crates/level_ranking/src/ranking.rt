@@ -4,7 +4,7 @@
 //! component's atoms, so that the clauses are n log n in the program's size. (T. Janhunen, I. Niemelä, Compact
 //! translations of non-disjunctive answer set programs to propositional clauses, 2011.)
 
-ghost use Rattle.std.specs.Prelude.{ℕ, ◌≡◌, ◌+◌, ◌<◌, ◌≤◌, ◌^◌, true, false, [], length, OnOk};
+ghost use Rattle.std.specs.Prelude.{ℕ, ◌≡◌, ◌+◌, ◌<◌, ◌≤◌, ◌^◌, true, false, [], OnOk};
 ghost use Rattle.asp_base.specs.Sets.{members};
 ghost use Rattle.asp_base.specs.Walks.{Reaches};
 ghost use Rattle.rising_numbers.specs.Rising.{place};
@@ -16,20 +16,19 @@ ghost use Rattle.components.specs.Parts.{ArePartsOf};
 ghost use Rattle.clause_store.specs.Stored.{formula_of_store};
 ghost use Rattle.completion.specs.Completion.{body_literals, completed};
 ghost use Rattle.completion.specs.Supported.{HasStable};
-ghost use Rattle.level_ranking.specs.Components.{part_of};
-ghost use Rattle.components.specs.Divided.{cyclic_numbers};
+ghost use Rattle.components.specs.Divided.{part_of, cyclic_numbers};
 ghost use Rattle.level_ranking.specs.Encoding.{after_atom, after_atoms, after_parts, with_rankings};
 ghost use Rattle.level_ranking.specs.Ranked.{HasFounded, DigitsComeFirst, AddsFew, AddsByParts};
 ghost use Rattle.level_ranking.specs.private.Counts.{atom_vars, atoms_vars, parts_vars};
 ghost use Rattle.level_ranking.specs.private.Ready.{IsGiven, IsReady};
 ghost use Rattle.level_ranking.specs.private.Sources.{ranking_digits, ranking_rows, ranking_width, ranking_base, in_component, atoms_in};
 
-use crate::gathering::{Given, Sources, heads, ranked_rules};
+use crate::gathering::{Given, Sources, ranked_rules};
 use crate::numbers::numbers;
 use crate::rules::add_atom;
 use asp_base::Memory;
 use clause_store::Store;
-use completion::Bodies;
+use completion::{Bodies, heads};
 use components::{Parts, node_of};
 use graph_parts::grouped;
 use ground_program::Program;
@@ -59,13 +58,10 @@ fn add_ranked(
     let program = sources.given.program;
     program.known();
     let index = node_of(&program.atoms, atom);
-    let at = index as usize;
-    let starts = sources.heads.starts.as_slice();
-    let values = sources.heads.values.as_slice();
-    let places = &values[starts[at]..starts[at + 1]];
-    let rules = ranked_rules(alloc, sources, part, places)?;
+    let rules = ranked_rules(alloc, sources, part, index)?;
     let table = sources.numbers;
-    add_atom(alloc, store, index + 1, &table[at], table, rules.as_slice())?;
+    let own = &table[index as usize];
+    add_atom(alloc, store, index + 1, own, table, rules.as_slice())?;
     Ok(())
 }
 
@@ -85,8 +81,9 @@ fn add_component(
         store.new ≡ after_atoms (place P.atoms) (ranking_digits P d) (ranking_rows P d part) (atoms_in P d part)
         store.old) }
     ensures from { OnOk result (store.old.vars ≤ store.new.vars) }
-    ensures few { OnOk result (let P = sources.now.given.program.now in let d = sources.now.given.parts.now in store.new.vars
-        ≤ store.old.vars + atoms_vars (ranking_width P d part) (ranking_rows P d part) (atoms_in P d part)) }
+    ensures few { OnOk result (let P = sources.now.given.program.now in let d = sources.now.given.parts.now in
+        store.new.vars ≤ store.old.vars
+        + atoms_vars (ranking_width P d part) (ranking_rows P d part) (atoms_in P d part)) }
 {
     for atom in sources.given.parts.members(part) {
         add_ranked(alloc, sources, part, *atom, store)?;
@@ -113,28 +110,6 @@ fn add_components(alloc: Global, sources: &Sources<'_>, store: &mut Store) -> Re
     Ok(())
 }
 
-/// Adds the clauses of the rankings, by lists for all atoms.
-fn add_listed(alloc: Global, given: Given<'_>, store: &mut Store) -> Result<(), Memory>
-    requires given { IsGiven given }
-    requires store { store.old ≡ completed given.program.now }
-    ensures { OnOk result (let d = given.entry.parts.now in
-        store.new ≡ with_rankings given.entry.program.now (part_of d) (cyclic_numbers d)) }
-{
-    let program = given.program;
-    program.known();
-    let atoms = program.atoms.as_slice();
-    let table = numbers(alloc, atoms, given.parts, store)?;
-    let pairs = heads(alloc, &program.atoms, program.rules.as_slice())?;
-    let rules_by_head = grouped(alloc, pairs.as_slice(), atoms.len())?;
-    let sources = Sources {
-        given,
-        numbers: table.as_slice(),
-        heads: &rules_by_head,
-    };
-    add_components(alloc, &sources, store)?;
-    Ok(())
-}
-
 /// Whether a component is cyclic.
 fn has_cyclic(parts: &Parts) -> bool
     ensures { result ≡ false → (i : ℕ) → 1 ≤ i → i ≤ parts.now.count → is_cyclic_at parts.now.cyclic i ≡ false }
@@ -157,7 +132,19 @@ fn add_rankings(alloc: Global, given: Given<'_>, store: &mut Store) -> Result<()
     if !has_cyclic(given.parts) {
         return Ok(());
     }
-    add_listed(alloc, given, store)?;
+    let program = given.program;
+    program.known();
+    let atoms = program.atoms.as_slice();
+    let table = numbers(alloc, atoms, given.parts, store)?;
+    let pairs = heads(alloc, &program.atoms, program.rules.as_slice())?;
+    let rules_by_head = grouped(alloc, pairs.as_slice(), atoms.len())?;
+    drop(pairs);
+    let sources = Sources {
+        given,
+        numbers: table.as_slice(),
+        heads: &rules_by_head,
+    };
+    add_components(alloc, &sources, store)?;
     Ok(())
 }
 

@@ -1,17 +1,19 @@
 //! The clauses of an atom's rank, rule by rule: one of its rules supports it, with atoms of its component of smaller
 //! rank, and no rule would do with a smaller rank. The atom's rank less 1 is made once, as each comparison is with it.
 
-ghost use Rattle.std.specs.Prelude.{◌≡◌, ◌+◌, ◌*◌, ◌<◌, ◌≤◌, ◌-◌, ◌^◌, ◌++◌, ◌∷◌, [], map, drop, length, List, IfOk, OnOk};
+ghost use Rattle.std.specs.Prelude.{◌≡◌, ◌+◌, ◌*◌, ◌<◌, ◌≤◌, ◌-◌, ◌^◌, ◌++◌, ◌∷◌, [], map, drop, length, IfOk, OnOk};
 ghost use Rattle.asp_base.specs.Literal.{negation};
-ghost use Rattle.level_ranking.specs.Encoding.{with_clauses, body_list, negated_body, after_compared, support_inputs, support, after_support, supports_in, after_supports, after_supported, after_near, after_nears, after_atom};
+ghost use Rattle.level_ranking.specs.Encoding.{body_list, negated_body, after_compared, support_inputs, support, after_support, supports_in, after_supports, after_supported, after_near, after_nears, after_atom};
+ghost use Rattle.clause_store.specs.Stored.{with_clauses};
 ghost use Rattle.std.specs.List.{AllByRecursion, list_any};
 ghost use Rattle.clause_store.specs.Facts.{IsOver};
 ghost use Rattle.digit_gates.specs.DigitGates.{less_vars};
 ghost use Rattle.level_ranking.specs.private.Counts.{support_vars, near_vars, atom_vars};
 ghost use Rattle.completion.specs.Completion.{is_empty};
-ghost use Rattle.level_ranking.specs.private.Pairs.{with_each, digits_in, CanSupport, CanRank};
+ghost use Rattle.level_ranking.specs.private.Pairs.{paired, digits_in, CanSupport, CanRank};
+ghost use Rattle.level_ranking.specs.declared.comparisons.First.TheVariants.{Own};
 
-use crate::comparisons::{push_each_not_below, push_not_below_each};
+use crate::comparisons::{First, push_not_below};
 use asp_base::{Lit, Memory};
 use clause_store::Store;
 use digit_gates::predecessor;
@@ -49,13 +51,14 @@ fn put_support(
     ensures inputs { OnOk result
         (inputs.new.items ≡ support_inputs lower.now (digits_in digits.now) rule.now store.old) }
     ensures store { OnOk result
-        (store.new ≡ after_compared (with_each lower.now digits.now rule.now.inside) store.old) }
+        (store.new ≡ after_compared (paired Own lower.now digits.now rule.now.inside) store.old) }
 {
     inputs.clear();
     if let Some(body) = rule.body {
         inputs.push(body)?;
     }
-    push_not_below_each(store, lower, digits, rule.inside.as_slice(), inputs)
+    let places = rule.inside.as_slice();
+    push_not_below(store, First::Own, lower, digits, places, inputs)
 }
 
 /// The literal of a rule's support.
@@ -206,7 +209,8 @@ fn add_near(
         return Ok(());
     }
     put_negated(clause, rule)?;
-    push_each_not_below(store, lower, digits, rule.inside.as_slice(), clause)?;
+    let places = rule.inside.as_slice();
+    push_not_below(store, First::Other, lower, digits, places, clause)?;
     store.clause(clause.as_slice())?;
     Ok(())
 }

@@ -5,6 +5,7 @@ use Rattle.std.specs.List.{list_any, AllByRecursion}
 use Rattle.std.proofs.lemmas.Bool.{and_parts, true≢false, eqb-true}
 use Rattle.asp_base.specs.Literal.{Literal, Pos, Neg, atom_of, literal_holds, all_hold}
 use Rattle.asp_base.specs.Sets.{Set, members, Same}
+use Rattle.asp_base.proofs.Bools.{and_same}
 use Rattle.ground_program.specs.Facts.{Among, LiteralsFit, HeadFits, BodyFits, RuleFits}
 use Rattle.ground_program.specs.Stable.{weight_of, holds, head_has, step, is_headless}
 use Rattle.ground_program.specs.declared.program.Head.{Head}
@@ -23,10 +24,6 @@ headless_holds rules X M = list_any (λ rule. is_headless rule.head && holds rul
 
 pub Near-sym : (atoms : List ℕ) (X Y : Set) → Near atoms X Y → Near atoms Y X
 Near-sym atoms X Y h a m = sym (h a m)
-
-and-same : (b p q : Bool) → (b ≡ true → p ≡ q) → (b && p) ≡ (b && q)
-and-same true p q h = h refl
-and-same false p q h = refl
 
 module _ (atoms : List ℕ) (X Y M N : Set) (x : Near atoms X Y) (m : Near atoms M N) where
   literal-near : (l : Literal) → Among atoms (atom_of l) → literal_holds l X M ≡ literal_holds l Y N
@@ -48,7 +45,7 @@ module _ (atoms : List ℕ) (X Y M N : Set) (x : Near atoms X Y) (m : Near atoms
   pub head-near : (head : Head) (a : ℕ) → HeadFits (Among atoms) head → head_has head M a ≡ head_has head N a
   head-near Nothing a h = refl
   head-near (One b) a h = refl
-  head-near (Choice as_) a h = and-same (members as_ a) (M a) (N a) (λ e. m a (each-member (Among atoms) as_ a h.1 e))
+  head-near (Choice as_) a h = and_same (members as_ a) (M a) (N a) (λ e. m a (each-member (Among atoms) as_ a h.1 e))
 
   pub step-near : (rules : List Rule) → AllByRecursion (RuleFits (Among atoms)) rules → Same (step rules M X) (step rules N Y)
   step-near [] h a = refl

@@ -16,11 +16,12 @@ use Rattle.ground_program.specs.declared.program.Body.TheVariants.{All, Sum}
 use Rattle.ground_program.specs.declared.program.Rule.{Rule}
 use Rattle.ground_program.specs.declared.program.Show.{Show}
 use Rattle.ground_program.proofs.FactLaws.{program-weighed}
+use Rattle.ground_program.proofs.Least.{step-append}
 use Rattle.smodels_format.specs.Lowering.{body_in_order, rule_draws, after_rules, rule_lowered, rules_lowered, show_rules, is_single, has_headless, first_index}
 use Rattle.smodels_format.proofs.LoweredBodies.{weights-in_order}
 use Rattle.smodels_format.proofs.LoweredNear.{Near, headless_holds}
 use Rattle.smodels_format.proofs.LoweredFresh.{Rises, after_rules-from, earlier, rules_value, shows_value, RulesNamed, ShowsNamed, rules-above, shows-below, rules-named, shows-named}
-use Rattle.smodels_format.proofs.LoweredStep.{step-append, rules-outside, shows-derive, shows-nothing, rules-inside}
+use Rattle.smodels_format.proofs.LoweredStep.{rules-outside, shows-derive, shows-nothing, rules-inside}
 
 -- ---- weights
 

@@ -1,5 +1,5 @@
 -- The stable models of a lowered program are those of the program, each with the new atoms whose bodies hold there.
-use Rattle.std.proofs.Common.{◌≡◌, refl, sym, ◌∙◌, ap, subst, ℕ, ◌<◌, ◌≤◌, Bool, true, false, cond, not, ◌&&◌, List, [], ◌∷◌, ⊎_elim, arith}
+use Rattle.std.proofs.Common.{◌≡◌, refl, sym, ◌∙◌, ap, subst, ℕ, ◌<◌, ◌≤◌, Bool, true, false, cond, not, ◌&&◌, List, [], ⊎_elim, arith}
 use mathlib.Core.Path.{fun_ext}
 use Rattle.std.proofs.lemmas.Bool.{and_parts, and_from, and_right, or_parts, or_from, cases_Bool, true≢false, eq-eqb}
 use Rattle.asp_base.specs.Literal.{all_hold}
@@ -9,16 +9,13 @@ use Rattle.ground_program.specs.Facts.{IsProgram}
 use Rattle.ground_program.specs.Ground.{Ground}
 use Rattle.ground_program.specs.Stable.{grown, least, joined, Stable}
 use Rattle.ground_program.proofs.FactLaws.{least-among, Stable-among}
+use Rattle.ground_program.proofs.Negative.{Acyclic-no_edges}
 use Rattle.smodels_format.specs.Lowering.{after_rules, has_headless, first_index}
 use Rattle.smodels_format.proofs.LoweredNear.{Near, headless_holds, all_hold-near}
 use Rattle.smodels_format.proofs.LoweredFresh.{Rises, after_rules-from, rules_value, shows_value, rules-below, shows-below}
 use Rattle.smodels_format.proofs.LoweredRules.{all_rules, fresh_part, Extends, headless-none}
 use Rattle.smodels_format.proofs.LoweredLeast.{extension, extension-extends, least-extends}
 use Rattle.smodels_format.proofs.LoweredKeeps.{IsLowered, required-says, all-headed}
-
-pub Acyclic-no_edges : (M : Set) → Acyclic (joined [] M)
-Acyclic-no_edges M node [] walk = true≢false (sym walk)
-Acyclic-no_edges M node (next ∷ rest) walk = true≢false (sym walk.0)
 
 pub cut-near : (atoms : List ℕ) (N : Set) → Near atoms N (cut atoms N)
 cut-near atoms N a h = sym (ap (λ t. t && N a) h)

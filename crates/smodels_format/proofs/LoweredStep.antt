@@ -4,11 +4,10 @@ use Rattle.asp_base.proofs.Bools.{and_true, or_swap}
 use Rattle.std.proofs.Common.{◌≡◌, refl, sym, ◌∙◌, ap, ap₂, ℕ, suc, ◌+◌, ◌==◌, Bool, true, false, cond, ◌&&◌, ◌||◌, List, [], ◌∷◌, ◌++◌}
 use Rattle.std.specs.List.{AllByRecursion}
 use Rattle.std.proofs.lemmas.Bool.{or_from, and_left, true≢false, ne_eqb}
-use Rattle.std.proofs.lemmas.List.Folds.{list_any-append}
 use Rattle.asp_base.specs.Sets.{Set, members}
 use Rattle.ground_program.specs.Closed.{HasWeights, Weighed}
 use Rattle.ground_program.specs.Facts.{Among, HeadFits, BodyFits, RuleFits, ShowFits}
-use Rattle.ground_program.specs.Stable.{holds, head_has, derives, step, is_headless}
+use Rattle.ground_program.specs.Stable.{holds, head_has, step, is_headless}
 use Rattle.ground_program.specs.declared.program.Head.{Head}
 use Rattle.ground_program.specs.declared.program.Head.TheVariants.{Nothing, One, Choice}
 use Rattle.ground_program.specs.declared.program.Body.{Body}
@@ -19,9 +18,6 @@ use Rattle.smodels_format.specs.Lowering.{body_in_order, rule_draws, rule_lowere
 use Rattle.smodels_format.proofs.LoweredBodies.{holds-in_order}
 use Rattle.smodels_format.proofs.LoweredNear.{Near, headless_holds, holds-near, head-outside}
 use Rattle.smodels_format.proofs.LoweredFresh.{rule_value, rules_value, shows_value, RuleNamed, RulesNamed}
-
-pub step-append : (rules more : List Rule) (M X : Set) (a : ℕ) → step (rules ++ more) M X a ≡ (step rules M X a || step more M X a)
-step-append rules more M X a = list_any-append (λ rule. derives rule M X a) rules more
 
 spread : (r b h v : Bool) → ((r && b) || ((r && h) || v)) ≡ ((r && (b || h)) || v)
 spread true true h v = refl

@@ -1,20 +1,15 @@
 -- Small texts with their programs and first faults, by computation.
-use Rattle.std.proofs.Common.{◌≡◌, refl, ℕ, List, [], ◌∷◌, Result, Ok, Err, codes}
+use Rattle.std.proofs.Common.{◌≡◌, refl, ℕ, List, [], ◌∷◌, Ok, codes}
 use Rattle.std.specs.Prelude.{pos}
 use Rattle.asp_base.specs.Literal.{Literal, Pos, Neg}
 use Rattle.ground_program.specs.Ground.{Ground}
-use Rattle.asp_base.specs.Faults.{Fault}
 use Rattle.ground_program.specs.declared.program.Head.TheVariants.{Nothing, One, Choice}
 use Rattle.ground_program.specs.declared.program.Body.TheVariants.{All, Sum}
-use Rattle.ground_program.specs.declared.program.Rule.{Rule}
 use Rattle.ground_program.specs.declared.program.Level.{Level}
 use Rattle.ground_program.specs.declared.program.Show.{Show}
-use Rattle.ground_program.specs.declared.reading.ReadKind.{ReadKind}
 use Rattle.ground_program.specs.declared.reading.ReadKind.TheVariants as kinds
+use Rattle.ground_program.proofs.Rows.{normal, of_rules, at}
 use Rattle.smodels_format.specs.Read.{smodels_of}
-
-abbrev of_rules : List ℕ → List Rule → Ground
-of_rules atoms rules = record { atoms = atoms; rules = rules; required = []; edges = []; levels = []; shows = [] }
 
 abbrev of_levels : List ℕ → List Level → Ground
 of_levels atoms levels = record { atoms = atoms; rules = []; required = []; edges = []; levels = levels; shows = [] }
@@ -25,14 +20,8 @@ of_shows atoms shows = record { atoms = atoms; rules = []; required = []; edges 
 abbrev of_required : List ℕ → List Literal → Ground
 of_required atoms lits = record { atoms = atoms; rules = []; required = lits; edges = []; levels = []; shows = [] }
 
-abbrev rule : ℕ → List Literal → Rule
-rule a lits = record { head = One a; body = All lits }
-
 abbrev shown : ℕ → List ℕ → Show
 shown a name = record { name = name; condition = Pos a ∷ [] }
-
-abbrev at : ℕ → ReadKind → Result Ground (Fault ReadKind)
-at line kind = Err (record { line = line; kind = kind })
 
 -- a choice, a rule with a bound, and their names
 whole : smodels_of (codes "3 3 1 2 3 0 0\n2 4 3 0 2 1 2 3\n0\n1 a\n2 b\n3 c\n4 d\n0\nB+\n0\nB-\n0\n1\n") ≡ Ok (record {
@@ -48,11 +37,11 @@ whole : smodels_of (codes "3 3 1 2 3 0 0\n2 4 3 0 2 1 2 3\n0\n1 a\n2 b\n3 c\n4 d
 whole = refl
 
 -- blanks, blank lines, line ends and leading zeros, and no number of models
-loose : smodels_of (codes "\n \t1 01  1 \t1 02 \r\n\n1 2 1 1 1\n0\n0\nB+ \r\n0\n\tB-\n0\n \n") ≡ Ok (of_rules (1 ∷ 2 ∷ []) (rule 1 (Neg 2 ∷ []) ∷ rule 2 (Neg 1 ∷ []) ∷ []))
+loose : smodels_of (codes "\n \t1 01  1 \t1 02 \r\n\n1 2 1 1 1\n0\n0\nB+ \r\n0\n\tB-\n0\n \n") ≡ Ok (of_rules (1 ∷ 2 ∷ []) (normal 1 (Neg 2 ∷ []) ∷ normal 2 (Neg 1 ∷ []) ∷ []))
 loose = refl
 
 -- the first literals of a body are negative
-negative_first : smodels_of (codes "1 1 3 2 4 2 3\n0\n0\nB+\n0\nB-\n0\n") ≡ Ok (of_rules (1 ∷ 2 ∷ 3 ∷ 4 ∷ []) (rule 1 (Neg 4 ∷ Neg 2 ∷ Pos 3 ∷ []) ∷ []))
+negative_first : smodels_of (codes "1 1 3 2 4 2 3\n0\n0\nB+\n0\nB-\n0\n") ≡ Ok (of_rules (1 ∷ 2 ∷ 3 ∷ 4 ∷ []) (normal 1 (Neg 4 ∷ Neg 2 ∷ Pos 3 ∷ []) ∷ []))
 negative_first = refl
 
 weights : smodels_of (codes "5 1 4 2 1 3 2 1 5\n0\n0\nB+\n0\nB-\n0\n1\n")
@@ -69,7 +58,7 @@ two_minimized : smodels_of (codes "6 0 1 0 7 3\n6 0 1 1 8 5\n0\n0\nB+\n0\nB-\n0\
 two_minimized = refl
 
 no_head : smodels_of (codes "8 0 1 0 5\n8 1 6 0 0\n0\n0\nB+\n0\nB-\n0\n1\n")
-    ≡ Ok (of_rules (5 ∷ 6 ∷ []) (record { head = Nothing; body = All (Pos 5 ∷ []) } ∷ rule 6 [] ∷ []))
+    ≡ Ok (of_rules (5 ∷ 6 ∷ []) (record { head = Nothing; body = All (Pos 5 ∷ []) } ∷ normal 6 [] ∷ []))
 no_head = refl
 
 -- the blanks in a name and behind it are the name's

@@ -5,12 +5,11 @@ use Rattle.asp_base.specs.Literal.{Literal, Pos, Neg}
 use Rattle.asp_scan.specs.Lines.{pieces_of, numbered, end_line}
 use Rattle.ground_program.specs.Draft.{Draft, empty_draft, with_rule}
 use Rattle.ground_program.specs.Facts.{IsAtom}
-use Rattle.ground_program.specs.declared.program.Rule.{Rule}
 use Rattle.ground_program.specs.declared.program.Level.{Level}
 use Rattle.ground_program.specs.declared.program.Show.{Show}
 use Rattle.ground_program.specs.declared.reading.ReadKind.{ReadKind}
 use Rattle.asp_base.proofs.Each.{each-weaker}
-use Rattle.statement_fields.proofs.LineSteps.{Adding, steps, number_behind, read_from, lines-read}
+use Rattle.statement_fields.proofs.LineSteps.{Adding, steps, number_behind, read_from, lines-read, rules-steps}
 use Rattle.smodels_format.specs.Parts.{Parts, levels_from, show_of, draft_of_parts, program_of_parts}
 use Rattle.smodels_format.specs.Read.{Entry, rule_entry, symbol_entry, required_entry, Stage, part, models, negative_part, positive_part, symbol_part, built, smodels_of}
 use Rattle.smodels_format.specs.Written.{rule_line, sum_line, symbol_line, atom_line, word_line, text_of_parts}
@@ -19,10 +18,6 @@ use Rattle.smodels_format.proofs.TextSteps.{EntryAdds, end-read}
 use Rattle.smodels_format.proofs.TextLines.{with_sum, with_sign, with_symbol, rule-adds, sum-adds, required-adds, symbol-adds}
 
 -- ---- what many lines add
-
-rules-steps : (rules : List Rule) (d : Draft) → steps with_rule rules d ≡ record d { rules = d.rules ++ rules }
-rules-steps [] d = ap (λ (xs : List Rule). record d { rules = xs }) (sym (append-nil d.rules))
-rules-steps (x ∷ xs) d = rules-steps xs (with_rule x d) ∙ ap (λ (ys : List Rule). record d { rules = ys }) (append_assoc d.rules (x ∷ []) xs)
 
 symbols-steps : (symbols : List (ℕ × List ℕ)) (d : Draft) → steps with_symbol symbols d ≡ record d { shows = d.shows ++ map show_of symbols }
 symbols-steps [] d = ap (λ (xs : List Show). record d { shows = xs }) (sym (append-nil d.shows))

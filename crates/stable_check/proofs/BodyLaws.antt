@@ -14,6 +14,7 @@ use Rattle.ground_program.specs.declared.program.Head.TheVariants.{Nothing, One,
 use Rattle.ground_program.specs.declared.program.Body.{Body}
 use Rattle.ground_program.specs.declared.program.Body.TheVariants.{All, Sum}
 use Rattle.ground_program.specs.declared.program.Rule.{Rule}
+use Rattle.ground_program.proofs.FactLaws.{body-weights}
 use Rattle.stable_check.specs.private.Lack.{natural, one_each, naturals, weighed, asks, total, lack}
 use Rattle.asp_base.proofs.Each.{each-weaker}
 
@@ -69,10 +70,6 @@ lack-from_holds X M rule w h = go rule.body w h
     go : (body : Body) → HasWeights body → holds body X M ≡ true → asks body - total (weighed body) X M ≡ 0
     go (All lits) w h = let e : total (one_each lits) X M ≡ length lits = total-from_all lits X M h in omega arith
     go (Sum bound items) w h = reached-bound bound (total (naturals items) X M) (ap (int_le bound) (sym (weight-total items X M w)) ∙ h)
-
-body-weights : (atoms : List ℕ) (body : Body) → BodyFits (Among atoms) body → HasWeights body
-body-weights atoms (All lits) h = tt
-body-weights atoms (Sum bound items) h = each-weaker _ _ (λ item k. k.1.0) items h.2
 
 pub weighed-rules : (atoms : List ℕ) (rules : List Rule) → AllByRecursion (RuleFits (Among atoms)) rules → Weighed rules
 weighed-rules atoms rules fit = each-weaker _ _ (λ rule h. body-weights atoms rule.body h.1) rules fit

@@ -1,5 +1,5 @@
 -- The parts of a verdict, and that the last one stands for the stable models.
-use Rattle.std.proofs.Common.{◌≡◌, ◌↔◌, refl, sym, ◌∙◌, ap, ℕ, suc, ℤ, pos, int_le, ◌-◌, ◌<◌, ◌==◌, Bool, true, false, cond, not, ◌&&◌, ◌||◌, List, [], ◌∷◌, map, Option, Some, None, ⊎_elim, arith}
+use Rattle.std.proofs.Common.{◌≡◌, ◌↔◌, refl, sym, ◌∙◌, ap, ℕ, suc, ℤ, pos, int_le, ◌-◌, ◌==◌, Bool, true, false, cond, not, ◌&&◌, ◌||◌, List, [], ◌∷◌, map, Option, Some, None, ⊎_elim}
 use mathlib.Core.Path.{fun_ext}
 use Rattle.std.specs.List.{list_any, list_all, filter, AllByRecursion}
 use Rattle.std.specs.Option.{option_map}
@@ -20,8 +20,8 @@ use Rattle.ground_program.specs.Stable.{weight_of, least, Stable, joined, edge_j
 use Rattle.ground_program.specs.declared.program.Edge.{Edge}
 use Rattle.ground_program.proofs.BrokenLaws.{unbroken-stable, stable-unbroken}
 use Rattle.ground_program.proofs.FactLaws.{least-among}
-use Rattle.asp_base.proofs.Bools.{same_test}
-use Rattle.rising_numbers.proofs.RisingLaws.{Ascends, Ascends-from_increasing, RisesFrom-lower, into-lower}
+use Rattle.asp_base.proofs.Bools.{same_test, and_true}
+use Rattle.rising_numbers.proofs.RisingLaws.{Ascends, Ascends-from_increasing, into-lower, rises-filter}
 use Rattle.stable_check.specs.declared.verdict.Verdict.{Verdict}
 use Rattle.stable_check.specs.declared.verdict.Verdict.TheVariants as verdicts
 use Rattle.stable_check.specs.private.Lack.{natural, naturals, total, flag}
@@ -89,13 +89,6 @@ filter-from_within L (x ∷ xs) h =
     cond-false (not (L x)) (x ∷ filter (λ a. not (L a)) xs) (filter (λ a. not (L a)) xs) (not_from_true (L x) (h x (or_left _ _ (eq-eqb x x refl))))
     ∙ filter-from_within L xs (λ a m. h a (or_right _ _ m))
 
-rises-filter : (low : ℕ) (p : ℕ → Bool) (xs : List ℕ) → RisesFrom low xs → RisesFrom low (filter p xs)
-rises-filter low p [] r = tt
-rises-filter low p (x ∷ xs) r =
-    let rest : RisesFrom x (filter p xs) = rises-filter x p xs r.1 in
-    let up : low < x = r.0 in
-    cond_both (p x) (x ∷ filter p xs) (filter p xs) (RisesFrom low) (λ e. (up, rest)) (λ e. RisesFrom-lower low x (filter p xs) (omega arith) rest)
-
 rising-same : (low : ℕ) (xs : List ℕ) → RisesFrom low xs → rising xs ≡ xs
 rising-same low [] r = refl
 rising-same low (x ∷ xs) r = ap (into_rising x) (rising-same x xs r.1) ∙ into-lower x xs r.1
@@ -106,8 +99,8 @@ rising-filter p xs up = go xs (Ascends-from_increasing xs up)
     go : (xs : List ℕ) → Ascends xs → rising (filter p xs) ≡ filter p xs
     go [] r = refl
     go (x ∷ xs) r = cond_both (p x) (x ∷ filter p xs) (filter p xs) (λ ys. rising ys ≡ ys)
-        (λ e. ap (into_rising x) (rising-same x (filter p xs) (rises-filter x p xs r)) ∙ into-lower x (filter p xs) (rises-filter x p xs r))
-        (λ e. rising-same x (filter p xs) (rises-filter x p xs r))
+        (λ e. ap (into_rising x) (rising-same x (filter p xs) (rises-filter p x xs r)) ∙ into-lower x (filter p xs) (rises-filter p x xs r))
+        (λ e. rising-same x (filter p xs) (rises-filter p x xs r))
 
 flagged-is : (P : Ground) (flags : List Bool) (M : Set) → IsProgram P → flags ≡ map (least P M) P.atoms → (a : ℕ) → flagged P.atoms flags a ≡ least P M a
 flagged-is P flags M facts is a = ⊎_elim
@@ -120,10 +113,6 @@ pub unfounded-is : (P : Ground) (flags : List Bool) (set : List ℕ) → IsProgr
 unfounded-is P flags set facts is = filter_agree (λ a. not (flagged P.atoms flags a)) (λ a. not (least P (members set) a)) (λ a. ap not (flagged-is P flags (members set) facts is a)) set
 
 -- ---- the graph
-
-and-true : (b : Bool) → (b && true) ≡ b
-and-true true = refl
-and-true false = refl
 
 leads-joined : (edges : List Edge) (M : Set) (u v : ℤ) → leads (pairs edges M) u v ≡ joined edges M u v
 leads-joined [] M u v = refl
@@ -139,7 +128,7 @@ leads-joined (edge ∷ edges) M u v = go (all_hold edge.condition M M) refl ∙ 
         leads (map (λ (e : Edge). (e.from, e.to)) (cond b (edge ∷ filter (λ e. all_hold e.condition M M) edges) (filter (λ e. all_hold e.condition M M) edges))) u v
         ≡ (edge_joins edge M u v || leads (pairs edges M) u v)
     go true is = ap (λ b. b || leads (pairs edges M) u v)
-        (ap (λ b. int_eq edge.from u && b) (sym (ap (λ b. int_eq edge.to v && b) is ∙ and-true (int_eq edge.to v))))
+        (ap (λ b. int_eq edge.from u && b) (sym (ap (λ b. int_eq edge.to v && b) is ∙ and_true (int_eq edge.to v))))
     go false is = ap (λ b. b || leads (pairs edges M) u v)
         (sym (and_right (int_eq edge.from u) (int_eq edge.to v && all_hold edge.condition M M) (and_right (int_eq edge.to v) (all_hold edge.condition M M) is)))
 

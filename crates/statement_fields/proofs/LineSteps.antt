@@ -1,11 +1,13 @@
 -- Written lines, one after another, are read as what each of them adds to a state. A text is read from the number of a line
 -- on, in a state, and so each line in front of other text is one step.
-use Rattle.std.proofs.Common.{◌≡◌, refl, ◌∙◌, ap, ℕ, suc, List, [], ◌∷◌, ◌++◌, append_assoc}
+use Rattle.std.proofs.Common.{◌≡◌, refl, sym, ◌∙◌, ap, ℕ, suc, List, [], ◌∷◌, ◌++◌, append_assoc, append-nil}
 use Rattle.std.specs.List.{AllByRecursion, flat_map}
 use Rattle.asp_scan.specs.Lines.{Line, pieces_of, numbered}
 use Rattle.asp_scan.specs.Words.{spaced, line_of, is_line, IsLine, IsWord}
 use Rattle.asp_scan.proofs.LineText.{IsLine-append, numbered-written}
 use Rattle.asp_scan.proofs.WordText.{spaced-not_blank, word-stays, IsWord-bytes}
+use Rattle.ground_program.specs.Draft.{Draft, with_rule}
+use Rattle.ground_program.specs.declared.program.Rule.{Rule}
 use Rattle.statement_fields.specs.FieldWords.{spaced_before}
 use Rattle.statement_fields.proofs.Spacing.{spaced-before}
 
@@ -25,6 +27,10 @@ line-front n first words rest word line =
 abbrev pub steps : {S A : Type 0} → (A → S → S) → List A → S → S
 steps step [] state = state
 steps step (x ∷ xs) state = steps step xs (step x state)
+
+pub rules-steps : (rules : List Rule) (d : Draft) → steps with_rule rules d ≡ record d { rules = d.rules ++ rules }
+rules-steps [] d = ap (λ (xs : List Rule). record d { rules = xs }) (sym (append-nil d.rules))
+rules-steps (x ∷ xs) d = rules-steps xs (with_rule x d) ∙ ap (λ (ys : List Rule). record d { rules = ys }) (append_assoc d.rules (x ∷ []) xs)
 
 -- the number of the line behind so many lines
 abbrev pub number_behind : {A : Type 0} → ℕ → List A → ℕ

@@ -3,9 +3,9 @@ use Rattle.std.proofs.Common.{◌≡◌, ◌⊎◌, refl, sym, ◌∙◌, ap, �
 use Rattle.std.specs.List.{AllByRecursion, IsDistinct, flat_map, filter}
 use Rattle.std.proofs.lemmas.Bool.{or_cases, or_left, or_right, true≢false, cases_Bool, eqb-true, eq-eqb, ne_eqb, both_ways, false_from_ne_true}
 use Rattle.std.proofs.lemmas.Map.Keys.{IsDistinct-head, IsDistinct-tail}
-use Rattle.asp_base.specs.Sets.{members}
+use Rattle.asp_base.specs.Sets.{In, members}
 use Rattle.asp_base.proofs.Each.{each-front, each-back, each-append, each-member}
-use Rattle.tangle_laws.proofs.PartElements.{Among, member-among, among-member, member-flat, kept-among, among-flat}
+use Rattle.tangle_laws.proofs.PartElements.{member-among, among-member, member-flat, kept-among, among-flat}
 use Rattle.tangle_laws.proofs.PartSums.{total, total-none}
 
 abbrev pub Distinct : List ℕ → Type 0
@@ -115,13 +115,13 @@ abbrev pub joined : List (List ℕ) → List ℕ
 joined xss = flat_map (λ xs. xs) xss
 
 pub joined-member : (xss : List (List ℕ)) (a : ℕ) → members (joined xss) a ≡ true
-    → (xs : List ℕ) × Among xs xss × (members xs a ≡ true)
+    → (xs : List ℕ) × In xs xss × (members xs a ≡ true)
 joined-member xss a m =
-    let r : (xs : List ℕ) × Among xs xss × Among a xs = among-flat (λ xs. xs) xss a
+    let r : (xs : List ℕ) × In xs xss × In a xs = among-flat (λ xs. xs) xss a
     (member-among (joined xss) a m) in
     (r.0, r.1, among-member r.0 a r.2)
 
-member-joined : (xss : List (List ℕ)) (xs : List ℕ) (a : ℕ) → Among xs xss → members xs a ≡ true
+member-joined : (xss : List (List ℕ)) (xs : List ℕ) (a : ℕ) → In xs xss → members xs a ≡ true
     → members (joined xss) a ≡ true
 member-joined xss xs a b m = member-flat (λ ys. ys) xss xs a b m
 
@@ -145,7 +145,7 @@ distinct-kept test (xs ∷ xss) d =
 
 -- One of such lists at most has a given number, and each sum over those that have it is one term.
 pub total-one : (f : List ℕ → ℕ) (x bound : ℕ) (xss : List (List ℕ)) → Distinct (joined xss)
-    → ((xs : List ℕ) → Among xs xss → f xs ≤ bound) → ((xs : List ℕ) → Among xs xss
+    → ((xs : List ℕ) → In xs xss → f xs ≤ bound) → ((xs : List ℕ) → In xs xss
     → members xs x ≡ false → f xs ≡ 0) → total f xss ≤ bound
 total-one f x bound [] d h k = omega arith
 total-one f x bound (xs ∷ xss) d h k =

@@ -3,14 +3,14 @@
 use Rattle.std.proofs.Common.{◌≡◌, subst, ⊎_elim, inl, inr, ℕ, ◌<◌, Bool, true, false, List, [], ◌∷◌, arith}
 use Rattle.std.specs.List.{list_any}
 use Rattle.std.proofs.lemmas.Bool.{or_cases, both_ways, cases_Bool, false_from_ne_true}
-use Rattle.asp_base.specs.Sets.{members}
+use Rattle.asp_base.specs.Sets.{In, members}
 use Rattle.asp_base.specs.Walks.{IsWalk, Reaches}
 use Rattle.ground_program.specs.Dependencies.{depends}
 use Rattle.ground_program.specs.Occurrences.{atoms_of_head}
 use Rattle.ground_program.specs.Tangle.{IsCyclicComponent, enters}
 use Rattle.ground_program.specs.declared.program.Rule.{Rule}
 use Rattle.tangle_laws.specs.Pieces.{Piece, IsPiece, ArePieces, AreApart, new_atoms, made_rules}
-use Rattle.tangle_laws.proofs.PartElements.{Among, each-among, Shared, shared-from_any, any-from_shared}
+use Rattle.tangle_laws.proofs.PartElements.{each-among, Shared, shared-from_any, any-from_shared}
 use Rattle.tangle_laws.proofs.PieceStands.{Stands, IsNew, new-stands, IsEdge, depends-edge, depends-by, stands-rule, stands-piece, fresh-new, one-piece, old-head, old-positive}
 use Rattle.tangle_laws.proofs.WalkReaches.{Gets, reaches-step, gets-then, then-gets}
 use Rattle.tangle_laws.proofs.WalkPieces.{Enters, Leaves, old-reaches, reaches-new, new-reaches}
@@ -129,7 +129,7 @@ module _ (rules : List Rule) (pieces : List Piece) (are : ArePieces rules pieces
 
     -- a made rule that enters the one is of a rule that enters the other
     made-enters : (rule : Rule) (piece : Piece) (made : Rule) → Stands rules pieces rule piece
-        → Among made piece.rules → enters atoms made ≡ true → enters part rule ≡ true
+        → In made piece.rules → enters atoms made ≡ true → enters part rule ≡ true
     made-enters rule piece made stands among into =
         let is : IsPiece rule piece = stands-piece rules pieces rule piece are stands in
         let head : Shared (atoms_of_head made.head) atoms =
@@ -141,7 +141,7 @@ module _ (rules : List Rule) (pieces : List Piece) (are : ArePieces rules pieces
         (or_cases _ _ (each-among _ piece.rules made is.heads among head.at head.one))
 
     pub made-stays_out : (rule : Rule) (piece : Piece) (made : Rule)
-        → Stands rules pieces rule piece → enters part rule ≡ false → Among made piece.rules
+        → Stands rules pieces rule piece → enters part rule ≡ false → In made piece.rules
         → enters atoms made ≡ false
     made-stays_out rule piece made stands out among = false_from_ne_true _
         (λ into. both_ways _ out (made-enters rule piece made stands among into))

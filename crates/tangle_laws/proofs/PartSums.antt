@@ -3,7 +3,7 @@ use Rattle.std.proofs.Common.{◌≡◌, refl, sym, ⊎_elim, inl, inr, ℕ, ◌
 use Rattle.std.specs.List.{list_any, flat_map, filter, sum_by}
 use Rattle.std.proofs.lemmas.Bool.{or_cases, true≢false, cond-true}
 use Rattle.std.proofs.lemmas.List.Recursion.{is_sum_by}
-use Rattle.tangle_laws.proofs.PartElements.{Among}
+use Rattle.asp_base.specs.Sets.{In}
 
 abbrev pub total : {X : Type 0} → (X → ℕ) → List X → ℕ
 total f [] = 0
@@ -12,14 +12,14 @@ total f (x ∷ xs) = f x + total f xs
 pub sum_by-total : {X : Type 0} (f : X → ℕ) (xs : List X) → sum_by f xs ≡ total f xs
 sum_by-total f xs = sym (is_sum_by (total f) f refl (λ x ys. refl) xs)
 
-pub total-le : {X : Type 0} (f g : X → ℕ) (xs : List X) → ((x : X) → Among x xs → f x ≤ g x)
+pub total-le : {X : Type 0} (f g : X → ℕ) (xs : List X) → ((x : X) → In x xs → f x ≤ g x)
     → total f xs ≤ total g xs
 total-le f g [] h = omega arith
 total-le f g (x ∷ xs) h =
     let here : f x ≤ g x = h x (inl refl) in
     let rest : total f xs ≤ total g xs = total-le f g xs (λ y a. h y (inr a)) in omega arith
 
-pub total-none : {X : Type 0} (f : X → ℕ) (xs : List X) → ((x : X) → Among x xs → f x ≡ 0)
+pub total-none : {X : Type 0} (f : X → ℕ) (xs : List X) → ((x : X) → In x xs → f x ≡ 0)
     → total f xs ≡ 0
 total-none f [] h = refl
 total-none f (x ∷ xs) h =
@@ -50,7 +50,7 @@ length-joined [] = refl
 length-joined (xs ∷ xss) = let rest = length-joined xss in
     let both = length-append xs (flat_map (λ ys. ys) xss) in omega arith
 
-total-kept : {X : Type 0} (test : X → Bool) (f : X → ℕ) (xs : List X)
+pub total-kept : {X : Type 0} (test : X → Bool) (f : X → ℕ) (xs : List X)
     → total f (filter test xs) ≡ total (λ x. cond (test x) (f x) 0) xs
 total-kept test f [] = refl
 total-kept test f (x ∷ xs) = by (test x) (total-kept test f xs)
@@ -77,7 +77,7 @@ total-some test n (x ∷ xs) m = ⊎_elim
 -- Where each element of one list meets some of another, its sum is within the sum over those of the
 -- others that it meets.
 pub total-met : {X Y : Type 0} (meets : Y → X → Bool) (f : X → ℕ) (xs : List X) (ys : List Y)
-    → ((x : X) → Among x xs → list_any (λ y. meets y x) ys ≡ true)
+    → ((x : X) → In x xs → list_any (λ y. meets y x) ys ≡ true)
     → total f xs ≤ total (λ y. total f (filter (meets y) xs)) ys
 total-met meets f xs ys h =
     let spread : total f xs ≤ total (λ x. total (λ y. cond (meets y x) (f x) 0) ys) xs =

@@ -3,14 +3,14 @@ use Rattle.std.proofs.Common.{◌≡◌, ◌⊎◌, refl, sym, ◌∙◌, subst,
 use Rattle.std.specs.List.{IsDistinct}
 use Rattle.std.proofs.lemmas.Bool.{or_cases, or_left, or_right, and_parts, and_from, both_ways, cases_Bool}
 use Rattle.asp_base.specs.Literal.{Literal, Pos, Neg, atom_of}
-use Rattle.asp_base.specs.Sets.{members}
+use Rattle.asp_base.specs.Sets.{In, members}
 use Rattle.ground_program.specs.Dependencies.{depends, positives_of_body, positives_of_literals, positives_of_items, with_positive}
 use Rattle.ground_program.specs.Occurrences.{atoms_of_head, atoms_of_body, atoms_of_rule, atoms_of_literals, atoms_of_items}
 use Rattle.ground_program.specs.declared.program.Body.{Body}
 use Rattle.ground_program.specs.declared.program.Body.TheVariants.{All, Sum}
 use Rattle.ground_program.specs.declared.program.Rule.{Rule}
 use Rattle.tangle_laws.specs.Pieces.{Piece, IsPiece, ArePieces, AreApart, new_atoms, made_rules}
-use Rattle.tangle_laws.proofs.PartElements.{Among, any-among, among-any, each-among, member-among, among-member, member-flat, member-left, member-right, among-flat}
+use Rattle.tangle_laws.proofs.PartElements.{any-among, among-any, each-among, member-among, among-member, member-flat, member-left, member-right, among-flat}
 use Rattle.tangle_laws.proofs.PartDistinct.{AreApartLists, distinct-parts}
 
 -- a piece stands at the place of a rule
@@ -29,21 +29,21 @@ stands-piece (r ∷ rules) (p ∷ pieces) rule piece are s =
     (λ t. stands-piece rules pieces rule piece are.1 t) s
 
 pub stands-rule : (rules : List Rule) (pieces : List Piece) (rule : Rule) (piece : Piece)
-    → Stands rules pieces rule piece → Among rule rules
+    → Stands rules pieces rule piece → In rule rules
 stands-rule [] pieces rule piece s = absurd s
 stands-rule (r ∷ rules) [] rule piece s = absurd s
 stands-rule (r ∷ rules) (p ∷ pieces) rule piece s = ⊎_elim (λ e. inl e.0)
     (λ t. inr (stands-rule rules pieces rule piece t)) s
 
 pub stands-among : (rules : List Rule) (pieces : List Piece) (rule : Rule) (piece : Piece)
-    → Stands rules pieces rule piece → Among piece pieces
+    → Stands rules pieces rule piece → In piece pieces
 stands-among [] pieces rule piece s = absurd s
 stands-among (r ∷ rules) [] rule piece s = absurd s
 stands-among (r ∷ rules) (p ∷ pieces) rule piece s = ⊎_elim (λ e. inl e.1)
     (λ t. inr (stands-among rules pieces rule piece t)) s
 
 pub rule-stands : (rules : List Rule) (pieces : List Piece) (rule : Rule) → ArePieces rules pieces
-    → Among rule rules → (piece : Piece) × Stands rules pieces rule piece
+    → In rule rules → (piece : Piece) × Stands rules pieces rule piece
 rule-stands [] pieces rule are a = absurd a
 rule-stands (r ∷ rules) [] rule are a = absurd are
 rule-stands (r ∷ rules) (p ∷ pieces) rule are a = ⊎_elim (λ e. (p, inl (e, refl)))
@@ -51,7 +51,7 @@ rule-stands (r ∷ rules) (p ∷ pieces) rule are a = ⊎_elim (λ e. (p, inl (e
     rule-stands rules pieces rule are.1 b in (t.0, inr t.1)) a
 
 piece-stands : (rules : List Rule) (pieces : List Piece) (piece : Piece) → ArePieces rules pieces
-    → Among piece pieces → (rule : Rule) × Stands rules pieces rule piece
+    → In piece pieces → (rule : Rule) × Stands rules pieces rule piece
 piece-stands rules [] piece are a = absurd a
 piece-stands [] (p ∷ pieces) piece are a = absurd are
 piece-stands (r ∷ rules) (p ∷ pieces) piece are a = ⊎_elim (λ e. (r, inl (refl, e)))
@@ -76,7 +76,7 @@ pub record IsNew (rules : List Rule) (pieces : List Piece) (a : ℕ) : Type 0 wh
 pub new-stands : (rules : List Rule) (pieces : List Piece) (a : ℕ) → ArePieces rules pieces
     → members (new_atoms pieces) a ≡ true → IsNew rules pieces a
 new-stands rules pieces a are m =
-    let r : (p : Piece) × Among p pieces × Among a p.fresh =
+    let r : (p : Piece) × In p pieces × In a p.fresh =
     among-flat (λ p. p.fresh) pieces a (member-among (new_atoms pieces) a m) in
     let s : (rule : Rule) × Stands rules pieces rule r.0 = piece-stands rules pieces r.0 are r.1 in
     record { rule = s.0; piece = r.0; stands = s.1; inside = among-member r.0.fresh a r.2 }
@@ -128,19 +128,19 @@ positives-body (All lits) a m = positives-literals lits a m
 positives-body (Sum bound items) a m = positives-items items a m
 
 module _ (rules : List Rule) (pieces : List Piece) (apart : AreApart rules pieces) where
-  old-in_rule : (rule : Rule) (a : ℕ) → Among rule rules → members (atoms_of_rule rule) a ≡ true
+  old-in_rule : (rule : Rule) (a : ℕ) → In rule rules → members (atoms_of_rule rule) a ≡ true
       → members (new_atoms pieces) a ≡ false
   old-in_rule rule a among m =
       ⊎_elim (λ t. absurd (both_ways _ (apart.new a t)
       (member-flat atoms_of_rule rules rule a among m))) (λ t. t)
       (cases_Bool (members (new_atoms pieces) a))
 
-  pub old-head : (rule : Rule) (a : ℕ) → Among rule rules
+  pub old-head : (rule : Rule) (a : ℕ) → In rule rules
       → members (atoms_of_head rule.head) a ≡ true → members (new_atoms pieces) a ≡ false
   old-head rule a among m =
       old-in_rule rule a among (member-left (atoms_of_head rule.head) (atoms_of_body rule.body) a m)
 
-  pub old-positive : (rule : Rule) (a : ℕ) → Among rule rules
+  pub old-positive : (rule : Rule) (a : ℕ) → In rule rules
       → members (positives_of_body rule.body) a ≡ true → members (new_atoms pieces) a ≡ false
   old-positive rule a among m = old-in_rule rule a among
       (member-right (atoms_of_head rule.head) (atoms_of_body rule.body) a
@@ -148,7 +148,7 @@ module _ (rules : List Rule) (pieces : List Piece) (apart : AreApart rules piece
 
 -- ---- edges
 
-pub depends-by : (rules : List Rule) (rule : Rule) (a b : ℕ) → Among rule rules
+pub depends-by : (rules : List Rule) (rule : Rule) (a b : ℕ) → In rule rules
     → members (atoms_of_head rule.head) a ≡ true → members (positives_of_body rule.body) b ≡ true
     → depends rules a b ≡ true
 depends-by rules rule a b among h p =
@@ -158,13 +158,13 @@ depends-by rules rule a b among h p =
 -- the rule of an edge
 pub record IsEdge (rules : List Rule) (a b : ℕ) : Type 0 where
   pub rule : Rule
-  pub among : Among rule rules
+  pub among : In rule rules
   pub head : members (atoms_of_head rule.head) a ≡ true
   pub body : members (positives_of_body rule.body) b ≡ true
 
 pub depends-edge : (rules : List Rule) (a b : ℕ) → depends rules a b ≡ true → IsEdge rules a b
 depends-edge rules a b m =
-    let r : (rule : Rule) × Among rule rules
+    let r : (rule : Rule) × In rule rules
     × ((members (atoms_of_head rule.head) a && members (positives_of_body rule.body) b) ≡ true)
     = any-among (λ rule. members (atoms_of_head rule.head) a &&
     members (positives_of_body rule.body) b) rules m in
@@ -184,7 +184,7 @@ pub made-edge : (rules : List Rule) (pieces : List Piece) (a b : ℕ) → ArePie
     → depends (made_rules pieces) a b ≡ true → IsMadeEdge rules pieces a b
 made-edge rules pieces a b are m =
     let edge : IsEdge (made_rules pieces) a b = depends-edge (made_rules pieces) a b m in
-    let r : (p : Piece) × Among p pieces × Among edge.rule p.rules =
+    let r : (p : Piece) × In p pieces × In edge.rule p.rules =
     among-flat (λ p. p.rules) pieces edge.rule edge.among in
     let s : (rule : Rule) × Stands rules pieces rule r.0 = piece-stands rules pieces r.0 are r.1 in
     let is : IsPiece s.0 r.0 = stands-piece rules pieces s.0 r.0 are s.1 in

@@ -1,15 +1,16 @@
 -- Where all rules that enter a component of the given rules are basic, their pieces are those
 -- rules, and one component of the made rules at most meets it: the same atoms, with the same links.
-use Rattle.std.proofs.Common.{◌≡◌, refl, sym, subst, ap, ⊎_elim, inl, ℕ, ◌+◌, ◌≤◌, Bool, true, false, not, cond, ◌||◌, List, [], ◌∷◌, length, arith, mul-le-mul}
+use Rattle.std.proofs.Common.{◌≡◌, refl, sym, subst, ap, ⊎_elim, inl, ℕ, ◌+◌, ◌≤◌, true, false, not, cond, ◌||◌, List, [], ◌∷◌, length, arith, mul-le-mul}
 use Rattle.std.proofs.lemmas.Bool.{cases_Bool, both_ways, true≢false, cond-true}
-use Rattle.asp_base.specs.Sets.{members}
+use Rattle.asp_base.specs.Sets.{In, members}
 use Rattle.asp_base.specs.Walks.{IsWalk, Reaches}
+use Rattle.asp_base.proofs.Bools.{imply}
 use Rattle.ground_program.specs.Dependencies.{depends, positives_of_body}
 use Rattle.ground_program.specs.Occurrences.{atoms_of_head}
 use Rattle.ground_program.specs.Tangle.{IsCyclicComponent, all_basic, enters, is_basic, links, occurrences, part_pairs}
 use Rattle.ground_program.specs.declared.program.Rule.{Rule}
 use Rattle.tangle_laws.specs.Pieces.{Piece, IsPiece, ArePieces, AreApart, new_atoms, made_rules}
-use Rattle.tangle_laws.proofs.PartElements.{Among, all-among, flat-among, any-from_shared, Shared, shared-from_any}
+use Rattle.tangle_laws.proofs.PartElements.{all-among, flat-among, any-from_shared, Shared, shared-from_any}
 use Rattle.tangle_laws.proofs.PartSums.{total, total-none, cond-le}
 use Rattle.tangle_laws.proofs.PartDistinct.{Distinct, AreApartLists, distinct-parts, joined, length-within, total-one}
 use Rattle.tangle_laws.proofs.PartLinks.{link, links-total, link-none, kept-more}
@@ -20,16 +21,12 @@ use Rattle.tangle_laws.proofs.WalkReaches.{reaches-step, reaches-join}
 use Rattle.tangle_laws.proofs.TangleRooms.{AreMet}
 
 -- each of joined lists without repetition has none
-distinct-one : (xss : List (List ℕ)) (xs : List ℕ) → Distinct (joined xss) → Among xs xss
+distinct-one : (xss : List (List ℕ)) (xs : List ℕ) → Distinct (joined xss) → In xs xss
     → Distinct xs
 distinct-one [] xs d a = absurd a
 distinct-one (ys ∷ xss) xs d a =
     let parts : AreApartLists ys (joined xss) = distinct-parts ys (joined xss) d in
     ⊎_elim (λ e. subst Distinct e parts.left) (λ b. distinct-one xss xs parts.right b) a
-
-passes-then : (b c : Bool) → (not b || c) ≡ true → b ≡ true → c ≡ true
-passes-then true c m e = m
-passes-then false c m e = absurd (true≢false (sym e))
 
 module _ (rules : List Rule) (pieces : List Piece) (are : ArePieces rules pieces)
     (apart : AreApart rules pieces) (part : List ℕ) (given : IsCyclicComponent rules part)
@@ -39,7 +36,7 @@ module _ (rules : List Rule) (pieces : List Piece) (are : ArePieces rules pieces
       → piece ≡ record { fresh = []; rules = rule ∷ [] }
   own rule piece stands into =
       let is : IsPiece rule piece = stands-piece rules pieces rule piece are stands in
-      is.basic (passes-then (enters part rule) (is_basic rule)
+      is.basic (imply (enters part rule) (is_basic rule)
       (all-among (λ r. not (enters part r) || is_basic r) rules rule basic
       (stands-rule rules pieces rule piece stands)) into)
 
@@ -54,7 +51,7 @@ module _ (rules : List Rule) (pieces : List Piece) (are : ArePieces rules pieces
       let into : enters part edge.rule ≡ true =
       any-from_shared (atoms_of_head edge.rule.head) part a edge.head inside in
       let is = own edge.rule piece.0 piece.1 into in
-      let here : Among edge.rule piece.0.rules = subst (λ p. Among edge.rule p.rules) (sym is)
+      let here : In edge.rule piece.0.rules = subst (λ p. In edge.rule p.rules) (sym is)
       (inl refl) in
       depends-by (made_rules pieces) edge.rule a b
       (flat-among (λ p. p.rules) pieces piece.0 edge.rule

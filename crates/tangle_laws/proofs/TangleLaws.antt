@@ -3,11 +3,11 @@
 use Rattle.std.proofs.Common.{◌≡◌, sym, subst, ⊎_elim, ℕ, ◌*◌, ◌≤◌, true, List, arith}
 use Rattle.std.specs.List.{filter, list_any}
 use Rattle.std.proofs.lemmas.Bool.{cases_Bool, cond-true, cond-false}
-use Rattle.asp_base.specs.Sets.{members}
+use Rattle.asp_base.specs.Sets.{In, members}
 use Rattle.ground_program.specs.Tangle.{IsCyclicComponent, AreCyclicComponents, all_basic, pairs, part_pairs, part_room, part_tangle, tangle}
 use Rattle.ground_program.specs.declared.program.Rule.{Rule}
 use Rattle.tangle_laws.specs.Pieces.{Piece, ArePieces, AreApart, made_rules}
-use Rattle.tangle_laws.proofs.PartElements.{Among, any-among, among-any, each-among, any-from_shared, kept-among}
+use Rattle.tangle_laws.proofs.PartElements.{any-among, among-any, each-among, any-from_shared, kept-among}
 use Rattle.tangle_laws.proofs.PartSums.{total, total-le, total-met, sum_by-total}
 use Rattle.tangle_laws.proofs.PartDistinct.{distinct-kept}
 use Rattle.tangle_laws.proofs.PartInside.{meets, HasOld, has-old, old-loop}
@@ -18,13 +18,13 @@ module _ (rules : List Rule) (pieces : List Piece) (made parts : List (List ℕ)
     (are : ArePieces rules pieces) (apart : AreApart rules pieces)
     (made_are : AreCyclicComponents (made_rules pieces) made)
     (parts_are : AreCyclicComponents rules parts) where
-  meets-some : (atoms : List ℕ) → Among atoms made → list_any (λ part. meets part atoms) parts
+  meets-some : (atoms : List ℕ) → In atoms made → list_any (λ part. meets part atoms) parts
       ≡ true
   meets-some atoms among =
       let comp : IsCyclicComponent (made_rules pieces) atoms =
       each-among _ made atoms made_are.each among in
       let has : HasOld rules pieces are apart atoms = has-old rules pieces are apart atoms comp in
-      let part : (p : List ℕ) × Among p parts × (members p has.at ≡ true) =
+      let part : (p : List ℕ) × In p parts × (members p has.at ≡ true) =
       any-among (λ p. members p has.at) parts (parts_are.all has.at
       (old-loop rules pieces are apart atoms comp has)) in
       among-any (λ p. meets p atoms) parts part.0 part.1
@@ -39,7 +39,7 @@ module _ (rules : List Rule) (pieces : List Piece) (made parts : List (List ℕ)
     once = distinct-kept (meets part) made made_are.once;
   }
 
-  met-within : (part : List ℕ) → Among part parts → total (part_pairs (made_rules pieces))
+  met-within : (part : List ℕ) → In part parts → total (part_pairs (made_rules pieces))
       (filter (meets part) made) ≤ part_tangle rules part
   met-within part among =
       let given : IsCyclicComponent rules part = each-among _ parts part parts_are.each among in

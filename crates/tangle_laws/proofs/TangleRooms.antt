@@ -2,13 +2,13 @@
 use Rattle.std.proofs.Common.{◌≡◌, ap, ⊎_elim, ℕ, ◌+◌, ◌*◌, ◌≤◌, true, false, cond, List, [], ◌++◌, length, arith, length-append, mul-le-mul}
 use Rattle.std.specs.List.{sum_by}
 use Rattle.std.proofs.lemmas.Bool.{cases_Bool, cond-true, cond-false}
-use Rattle.asp_base.specs.Sets.{members}
+use Rattle.asp_base.specs.Sets.{In, members}
 use Rattle.ground_program.specs.Room.{term}
 use Rattle.ground_program.specs.Size.{rule_size}
 use Rattle.ground_program.specs.Tangle.{IsCyclicComponent, enters, links, part_pairs, part_room}
 use Rattle.ground_program.specs.declared.program.Rule.{Rule}
 use Rattle.tangle_laws.specs.Pieces.{Piece, IsPiece, ArePieces, AreApart, new_atoms, made_rules}
-use Rattle.tangle_laws.proofs.PartElements.{Among, each-among, member-left, member-right}
+use Rattle.tangle_laws.proofs.PartElements.{each-among, member-left, member-right}
 use Rattle.tangle_laws.proofs.PartSums.{total, total-le, total-none, total-both, total-swap, total-square, sum_by-total, length-joined}
 use Rattle.tangle_laws.proofs.PartDistinct.{Distinct, joined, joined-member, length-within}
 use Rattle.tangle_laws.proofs.PartLinks.{link, links-total, link-none, link-once}
@@ -18,8 +18,8 @@ use Rattle.tangle_laws.proofs.PieceSums.{fresh_where, fresh_where-member, made-w
 
 -- components of the made rules, each of which meets a part
 pub record AreMet (rules : List Rule) (part : List ℕ) (comps : List (List ℕ)) : Type 0 where
-  pub each : (atoms : List ℕ) → Among atoms comps → IsCyclicComponent rules atoms
-  pub meet : (atoms : List ℕ) → Among atoms comps → meets part atoms ≡ true
+  pub each : (atoms : List ℕ) → In atoms comps → IsCyclicComponent rules atoms
+  pub meet : (atoms : List ℕ) → In atoms comps → meets part atoms ≡ true
   pub once : Distinct (joined comps)
 
 module _ (rules : List Rule) (pieces : List Piece) (are : ArePieces rules pieces)
@@ -30,7 +30,7 @@ module _ (rules : List Rule) (pieces : List Piece) (are : ArePieces rules pieces
   inside : (a : ℕ) → members (joined comps) a ≡ true →
       members (part ++ fresh_where (enters part) rules pieces) a ≡ true
   inside a m =
-      let in_one : (atoms : List ℕ) × Among atoms comps × (members atoms a ≡ true) =
+      let in_one : (atoms : List ℕ) × In atoms comps × (members atoms a ≡ true) =
       joined-member comps a m in
       let comp = met.each in_one.0 in_one.1 in
       let meet = met.meet in_one.0 in_one.1 in

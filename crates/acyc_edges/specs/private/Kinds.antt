@@ -1,10 +1,9 @@
 -- What each kind of encoding makes.
 use Rattle.std.specs.Prelude.{ℕ, ◌≤◌, ◌^◌, List, [], ◌++◌, map, ⊤}
 use Rattle.std.specs.List.{flat_map}
-use Rattle.components.specs.Divided.{Divided, cyclic_numbers, cyclic_parts}
+use Rattle.components.specs.Divided.{Divided, cyclic_numbers, cyclic_parts, part_of}
 use Rattle.ground_program.specs.Ground.{Ground}
 use Rattle.ground_program.specs.Tangle.{pairs}
-use Rattle.acyc_edges.specs.Components.{part_of}
 use Rattle.acyc_edges.specs.Encoding.{atoms_in, both_names, edge_names, rules_of, plain, unique}
 use Rattle.acyc_edges.specs.declared.kind.Kind.{Kind}
 use Rattle.acyc_edges.specs.declared.kind.Kind.TheVariants.{Plain, Unique}

@@ -1,13 +1,12 @@
 -- A normal program with its components, and what the code keeps of them while it makes an encoding.
 use Rattle.std.specs.Prelude.{ℕ, ◌≤◌, ◌^◌, List, []}
-use Rattle.components.specs.Divided.{Divided, cyclic_numbers}
+use Rattle.components.specs.Divided.{Divided, cyclic_numbers, part_of}
 use Rattle.components.specs.Parts.{ArePartsOf}
 use Rattle.ground_program.specs.Ground.{Ground}
 use Rattle.ground_program.specs.Normal.{AreNormal}
 use Rattle.ground_program.specs.Size.{size}
 use Rattle.ground_program.specs.declared.program.Edge.{Edge}
 use Rattle.ground_program.specs.declared.program.Rule.{Rule}
-use Rattle.acyc_edges.specs.Components.{part_of}
 use Rattle.acyc_edges.specs.Encoding.{edges_of, made, rules_of_name}
 use Rattle.acyc_edges.specs.declared.name.Name.{Name}
 use Rattle.acyc_edges.specs.declared.nodes.Nodes.{Nodes}

@@ -1,15 +1,10 @@
 -- Where the names of an encoding come from, and what else is named with them.
-use Rattle.std.specs.Prelude.{◌≡◌, ◌⊎◌, ℕ, true, List, [], ◌∷◌}
-use Rattle.asp_base.specs.Sets.{members}
+use Rattle.std.specs.Prelude.{◌≡◌, ℕ, true, List}
+use Rattle.asp_base.specs.Sets.{members, In}
 use Rattle.ground_program.specs.Ground.{Ground}
 use Rattle.acyc_edges.specs.Encoding.{is_cyclic, rules_of, head_at, inner_at}
 use Rattle.acyc_edges.specs.declared.name.Name.{Name}
 use Rattle.acyc_edges.specs.declared.name.Name.TheVariants.{Atom, Complement, Fires, Chosen, Left, Backed, NoLater, Backs}
-
--- it stands in the list
-abbrev pub In : {A : Type 0} → A → List A → Type 0
-In x [] = ⊥
-In x (y ∷ ys) = (y ≡ x) ⊎ In x ys
 
 module _ (P : Ground) (part : ℕ → ℕ) (parts : List ℕ) where
   -- an atom of the program in a cyclic component

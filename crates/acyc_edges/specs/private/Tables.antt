@@ -9,10 +9,10 @@ use Rattle.ground_program.specs.declared.program.Head.{Head}
 use Rattle.ground_program.specs.declared.program.Head.TheVariants.{Nothing, One, Choice}
 use Rattle.ground_program.specs.declared.program.Rule.{Rule}
 use Rattle.ground_program.specs.Dependencies.{positives_of_body}
-use Rattle.acyc_edges.specs.Encoding.{once, counted, rule_at, rules_of, head_at}
+use Rattle.acyc_edges.specs.Encoding.{counted, rule_at, rules_of, head_at}
 use Rattle.acyc_edges.specs.declared.name.Name.{Name}
 use Rattle.acyc_edges.specs.declared.name.Name.TheVariants.{Atom, Complement, Fires, Chosen, Left, Backed, NoLater, Backs}
-use Rattle.asp_base.specs.Sets.{members}
+use Rattle.asp_base.specs.Sets.{members, once}
 use Rattle.acyc_edges.specs.declared.tables.Tables.{Tables}
 
 -- the place of the atom in a head, with the index of its rule

@@ -91,8 +91,7 @@ impl<'a> Desk<'a> for FailDesk<'a> {
     {
         if self.fails() {
             self.desk.stop_reading();
-            self.desk.fail_reading(Place::Name(name));
-            return Err(Failed);
+            return Err(self.desk.fail_reading(Place::Name(name)));
         }
         self.desk.begin_read(name)
     }
@@ -107,8 +106,7 @@ impl<'a> Desk<'a> for FailDesk<'a> {
     {
         if self.fails_on(into) {
             let place = self.desk.reading_place();
-            self.desk.fail_reading(place);
-            return Err(Failed);
+            return Err(self.desk.fail_reading(place));
         }
         self.desk.read(into)
     }
@@ -124,8 +122,7 @@ impl<'a> Desk<'a> for FailDesk<'a> {
         ensures kept { OnErr result ((fail_state self.new).made ≡ (fail_state self.old).made) }
     {
         if self.fails() {
-            self.desk.fail_writing(Place::Name(name));
-            return Err(Failed);
+            return Err(self.desk.fail_writing(Place::Name(name)));
         }
         self.desk.begin_write(name)
     }
@@ -140,8 +137,7 @@ impl<'a> Desk<'a> for FailDesk<'a> {
     {
         if self.fails_on(bytes) {
             let place = self.desk.writing_place();
-            self.desk.fail_writing(place);
-            return Err(Failed);
+            return Err(self.desk.fail_writing(place));
         }
         self.desk.write(bytes)
     }
@@ -157,8 +153,7 @@ impl<'a> Desk<'a> for FailDesk<'a> {
         if self.fails() {
             let place = self.desk.writing_place();
             self.desk.writes = false;
-            self.desk.fail_writing(place);
-            return Err(Failed);
+            return Err(self.desk.fail_writing(place));
         }
         self.desk.end_write()
     }
@@ -174,8 +169,7 @@ impl<'a> Desk<'a> for FailDesk<'a> {
         ensures kept { OnErr result ((fail_state self.new).said ≡ (fail_state self.old).said) }
     {
         if self.fails_on(bytes) {
-            self.desk.fail_writing(Place::Output);
-            return Err(Failed);
+            return Err(self.desk.fail_writing(Place::Output));
         }
         self.desk.say(bytes)
     }

@@ -1,18 +1,16 @@
 -- What the rankings of a program are made from: the digits of its atoms, and its rules by their
 -- heads.
-use Rattle.std.specs.Prelude.{◌≡◌, ℕ, suc, ◌+◌, ◌-◌, ◌≤◌, ◌^◌, Bool, true, cond, List, [], ◌∷◌, ◌++◌, map, length, drop, Option}
+use Rattle.std.specs.Prelude.{◌≡◌, ℕ, ◌+◌, ◌-◌, ◌≤◌, ◌^◌, Bool, true, cond, List, [], ◌∷◌, ◌++◌, map, length, drop, Option}
 use Rattle.asp_base.specs.Literal.{Literal}
 use Rattle.asp_base.specs.Sets.{Set, members}
 use Rattle.rising_numbers.specs.Rising.{RisesFrom, place}
 use Rattle.ground_program.specs.Digits.{digits}
 use Rattle.ground_program.specs.Ground.{Ground}
-use Rattle.ground_program.specs.declared.program.Head.{Head}
-use Rattle.ground_program.specs.declared.program.Head.TheVariants.{Nothing, One, Choice}
 use Rattle.ground_program.specs.declared.program.Rule.{Rule}
-use Rattle.components.specs.Divided.{Divided, cyclic_numbers}
+use Rattle.components.specs.Divided.{Divided, cyclic_numbers, part_of}
 use Rattle.clause_store.specs.Stored.{Stored}
 use Rattle.digit_gates.specs.DigitGates.{variables_from}
-use Rattle.level_ranking.specs.Components.{atoms_of_part, component, part_of}
+use Rattle.level_ranking.specs.Components.{atoms_of_part, component}
 use Rattle.level_ranking.specs.Encoding.{Row, inside, part_width, digits_at, rows_at, with_digits}
 
 -- ---- components
@@ -41,18 +39,6 @@ digit_table ranked width (a ∷ atoms) n =
     ∷ digit_table ranked width atoms (n + cond (ranked a) (width a) 0)
 
 -- ---- rules by their heads
-
--- the place of a head among the atoms, from 0, and that of its rule
-abbrev pub head_pairs : List ℕ → Head → ℕ → List (ℕ × ℕ)
-head_pairs atoms Nothing i = []
-head_pairs atoms (One a) i = (place atoms a - 1, i) ∷ []
-head_pairs atoms (Choice as_) i = []
-
--- the first rule has the place i
-abbrev pub heads_from : List ℕ → ℕ → List Rule → List (ℕ × ℕ)
-heads_from atoms i [] = []
-heads_from atoms i (rule ∷ rules) =
-    head_pairs atoms rule.head i ++ heads_from atoms (suc i) rules
 
 -- the first of these rules, as a rule of an atom of the component
 abbrev pub first_row : Set → List Rule → List (Option Literal) → List Row

@@ -4,12 +4,11 @@ use Rattle.std.specs.List.{flat_map}
 use Rattle.asp_base.specs.Sets.{members, Within}
 use Rattle.asp_base.specs.Walks.{Acyclic}
 use Rattle.graph_parts.specs.Divided.{is_cyclic_at}
-use Rattle.components.specs.Divided.{cyclic_numbers}
+use Rattle.components.specs.Divided.{cyclic_numbers, part_of}
 use Rattle.ground_program.specs.Dependencies.{depends}
 use Rattle.ground_program.specs.Faithful.{Covers}
 use Rattle.ground_program.specs.Normal.{AreNormal}
 use Rattle.ground_program.specs.Size.{size}
-use Rattle.acyc_edges.specs.Components.{part_of}
 use Rattle.acyc_edges.specs.Encoding.{plain_names}
 use Rattle.acyc_edges.proofs.CyclicLaws.{rises-parts}
 use Rattle.acyc_edges.proofs.Tight.{made-normal}

@@ -2,7 +2,7 @@ use Rattle.std.proofs.Common.{◌≡◌, ◌+◌, ◌*◌, ◌≤◌, ℕ, sym, 
 use Rattle.std.specs.List.{flat_map}
 use Rattle.asp_base.specs.Sets.{members, Within}
 use Rattle.asp_base.specs.Walks.{Acyclic}
-use Rattle.components.specs.Divided.{cyclic_numbers, cyclic_parts}
+use Rattle.components.specs.Divided.{cyclic_numbers, cyclic_parts, part_of}
 use Rattle.graph_parts.specs.Divided.{is_cyclic_at}
 use Rattle.ground_program.specs.Dependencies.{depends}
 use Rattle.ground_program.specs.Faithful.{Faithful}
@@ -10,7 +10,6 @@ use Rattle.ground_program.specs.Ground.{Ground}
 use Rattle.ground_program.specs.Normal.{AreNormal}
 use Rattle.ground_program.specs.Size.{size}
 use Rattle.ground_program.specs.Tangle as tangle
-use Rattle.acyc_edges.specs.Components.{part_of}
 use Rattle.acyc_edges.specs.Encoding.{unique, unique_names}
 use Rattle.acyc_edges.specs.Staying.{StayFirst}
 use Rattle.acyc_edges.specs.private.Pairs.{pairs}

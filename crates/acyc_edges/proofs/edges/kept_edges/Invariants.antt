@@ -1,7 +1,6 @@
 -- What the loop of `kept_edges` has done so far.
 use Rattle.std.proofs.Common.{◌≡◌, map, take}
-use Rattle.components.specs.Divided.{cyclic_numbers}
-use Rattle.acyc_edges.specs.Components.{part_of}
+use Rattle.components.specs.Divided.{cyclic_numbers, part_of}
 use Rattle.acyc_edges.specs.Encoding.{node_of}
 use Rattle.acyc_edges.proofs.edges.kept_edges.Given as goal
 

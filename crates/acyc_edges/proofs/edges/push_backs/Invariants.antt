@@ -1,8 +1,7 @@
 -- What the loop of `push_backs` has done so far.
 use Rattle.std.proofs.Common.{◌≡◌, ◌++◌, [], ◌∷◌, map, take}
 use Rattle.asp_base.specs.Literal.{Pos}
-use Rattle.components.specs.Divided.{cyclic_numbers}
-use Rattle.acyc_edges.specs.Components.{part_of}
+use Rattle.components.specs.Divided.{cyclic_numbers, part_of}
 use Rattle.acyc_edges.specs.Encoding.{head_at, inner_at, node_of_atom}
 use Rattle.acyc_edges.specs.declared.name.Name.TheVariants.{Backs}
 use Rattle.acyc_edges.specs.private.Numbers.{number_of}

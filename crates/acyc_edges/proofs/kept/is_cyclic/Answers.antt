@@ -1,8 +1,8 @@
 -- What is left to show of `is_cyclic`.
 use Rattle.std.proofs.Common.{◌≤◌, ap, sym, ◌∙◌, subst}
 use Rattle.components.specs.Components.{number_of}
+use Rattle.components.specs.Divided.{part_of}
 use Rattle.graph_parts.specs.Divided.{is_cyclic_at}
-use Rattle.acyc_edges.specs.Components.{part_of}
 use Rattle.acyc_edges.proofs.CyclicLaws.{member-test}
 use Rattle.acyc_edges.proofs.kept.is_cyclic.Goals as goal
 

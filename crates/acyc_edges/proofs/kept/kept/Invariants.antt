@@ -4,8 +4,7 @@ use Rattle.std.specs.List.{AllByRecursion}
 use Rattle.ground_program.specs.Facts.{Among, RuleFits}
 use Rattle.acyc_edges.specs.Encoding.{has_head_in, is_cyclic}
 use Rattle.ground_program.specs.Normal.{AreNormal}
-use Rattle.components.specs.Divided.{cyclic_numbers}
-use Rattle.acyc_edges.specs.Components.{part_of}
+use Rattle.components.specs.Divided.{cyclic_numbers, part_of}
 use Rattle.acyc_edges.proofs.kept.kept.Given as goal
 
 abbrev pub invariant-loop-rule : goal.invariant-loop-rule

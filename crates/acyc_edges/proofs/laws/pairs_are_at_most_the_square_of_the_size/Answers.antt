@@ -1,9 +1,8 @@
 -- What is left to show of `pairs_are_at_most_the_square_of_the_size`.
 use Rattle.std.proofs.Common.{◌*◌, ◌≤◌, sym, subst}
 use Rattle.graph_parts.specs.Divided.{is_cyclic_at}
-use Rattle.components.specs.Divided.{cyclic_numbers}
+use Rattle.components.specs.Divided.{cyclic_numbers, part_of}
 use Rattle.ground_program.specs.Size.{size}
-use Rattle.acyc_edges.specs.Components.{part_of}
 use Rattle.acyc_edges.proofs.CyclicLaws.{rises-parts}
 use Rattle.acyc_edges.proofs.PairLaws.{pairs-most}
 use Rattle.acyc_edges.proofs.TangleLaws.{pairs-of}

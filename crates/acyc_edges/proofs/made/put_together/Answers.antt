@@ -1,8 +1,7 @@
 -- What is left to show of `put_together`.
 use Rattle.std.proofs.Common.{◌≡◌, ap, ◌∙◌}
 use Rattle.graph_parts.specs.Divided.{is_cyclic_at}
-use Rattle.components.specs.Divided.{cyclic_numbers}
-use Rattle.acyc_edges.specs.Components.{part_of}
+use Rattle.components.specs.Divided.{cyclic_numbers, part_of}
 use Rattle.acyc_edges.proofs.CyclicLaws.{rises-parts}
 use Rattle.acyc_edges.proofs.MadeProgram.{made-is_program}
 use Rattle.acyc_edges.proofs.made.put_together.Goals as goal

@@ -1,8 +1,7 @@
 -- What is left to show of `rules_of_all`.
 use Rattle.std.proofs.Common.{◌++◌, ap, ap₂, ◌∙◌}
 use Rattle.std.specs.List.{flat_map}
-use Rattle.components.specs.Divided.{cyclic_numbers}
-use Rattle.acyc_edges.specs.Components.{part_of}
+use Rattle.components.specs.Divided.{cyclic_numbers, part_of}
 use Rattle.acyc_edges.specs.Encoding.{kept_rules}
 use Rattle.acyc_edges.specs.private.Setting.{rules_by}
 use Rattle.acyc_edges.proofs.FitLaws.{names-fit}

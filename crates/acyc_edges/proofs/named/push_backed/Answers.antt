@@ -1,9 +1,9 @@
 -- What is left to show of `push_backed`.
 use Rattle.std.proofs.Common.{◌++◌, [], ◌∷◌, ap, ap₂, ◌∙◌}
-use Rattle.acyc_edges.specs.Components.{part_of}
 use Rattle.acyc_edges.proofs.NameOrder.{append-more}
 use Rattle.acyc_edges.proofs.WrittenLaws.{backed-name, limit}
 use Rattle.acyc_edges.proofs.named.push_backed.Goals as goal
+use Rattle.components.specs.Divided.{part_of}
 
 pub returns : goal.returns
 returns c =

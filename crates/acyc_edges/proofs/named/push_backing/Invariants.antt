@@ -1,9 +1,9 @@
 -- What the loop of `push_backing` has done so far.
 use Rattle.std.proofs.Common.{◌≡◌, ◌++◌, [], map, take}
-use Rattle.acyc_edges.specs.Components.{part_of}
 use Rattle.acyc_edges.specs.Encoding.{inner_at, rules_of}
 use Rattle.acyc_edges.specs.private.Written.{backing_rule}
 use Rattle.acyc_edges.proofs.named.push_backing.Given as goal
+use Rattle.components.specs.Divided.{part_of}
 
 abbrev pub invariant-loop-index : goal.invariant-loop-index
 invariant-loop-index l =

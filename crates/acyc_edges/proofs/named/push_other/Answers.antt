@@ -1,11 +1,11 @@
 -- What is left to show of `push_other`.
 use Rattle.std.proofs.Common.{◌≤◌, ◌++◌, [], length, map, ap, subst, ◌∙◌, arith}
-use Rattle.acyc_edges.specs.Components.{part_of}
 use Rattle.acyc_edges.specs.Encoding.{inner_at, rules_of}
 use Rattle.acyc_edges.specs.private.Written.{later_rule}
 use Rattle.acyc_edges.proofs.TableLaws.{take-past}
 use Rattle.acyc_edges.proofs.WrittenLaws.{other-name}
 use Rattle.acyc_edges.proofs.named.push_other.Goals as goal
+use Rattle.components.specs.Divided.{part_of}
 
 pub returns : goal.returns
 returns c =

@@ -1,11 +1,11 @@
 -- What is left to show of `push_same`.
 use Rattle.std.proofs.Common.{◌++◌, [], ◌∷◌, ap, ◌∙◌}
-use Rattle.acyc_edges.specs.Components.{part_of}
 use Rattle.acyc_edges.specs.declared.name.Name.TheVariants.{NoLater}
 use Rattle.acyc_edges.specs.private.Numbers.{number_of}
 use Rattle.acyc_edges.proofs.NameOrder.{append-more}
 use Rattle.acyc_edges.proofs.WrittenLaws.{same-name, limit}
 use Rattle.acyc_edges.proofs.named.push_same.Goals as goal
+use Rattle.components.specs.Divided.{part_of}
 
 pub returns : goal.returns
 returns c =

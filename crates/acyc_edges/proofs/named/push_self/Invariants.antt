@@ -1,9 +1,9 @@
 -- What the loop of `push_self` has done so far.
 use Rattle.std.proofs.Common.{◌≡◌, ◌++◌, [], map, take}
-use Rattle.acyc_edges.specs.Components.{part_of}
 use Rattle.acyc_edges.specs.Encoding.{rules_of}
 use Rattle.acyc_edges.specs.private.Written.{self_rule}
 use Rattle.acyc_edges.proofs.named.push_self.Given as goal
+use Rattle.components.specs.Divided.{part_of}
 
 abbrev pub invariant-loop-index : goal.invariant-loop-index
 invariant-loop-index l =

@@ -3,9 +3,8 @@ use Rattle.std.proofs.Common.{◌≡◌, ◌+◌, ◌++◌, ◌==◌, ap, ap₂,
 use Rattle.std.specs.List.{AllByRecursion}
 use Rattle.ground_program.specs.Facts.{Among}
 use Rattle.graph_parts.specs.Divided.{is_cyclic_at}
-use Rattle.components.specs.Divided.{members_of}
+use Rattle.components.specs.Divided.{members_of, part_of}
 use Rattle.acyc_edges.specs.Encoding.{atoms_in}
-use Rattle.acyc_edges.specs.Components.{part_of}
 use Rattle.acyc_edges.specs.private.Kinds.{names_in, names_over}
 use Rattle.acyc_edges.proofs.TableLaws.{part-among, part-taken, part-left}
 use Rattle.acyc_edges.proofs.names.names_of.Goals as goal

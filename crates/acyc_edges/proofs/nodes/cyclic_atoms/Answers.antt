@@ -1,10 +1,9 @@
 -- What is left to show of `cyclic_atoms`.
 use Rattle.std.proofs.Common.{ap, ◌∙◌}
 use Rattle.rising_numbers.specs.Rising.{rising}
-use Rattle.components.specs.Divided.{cyclic_numbers}
-use Rattle.acyc_edges.specs.Components.{part_of}
+use Rattle.rising_numbers.proofs.RisingLaws.{rises-filter}
+use Rattle.components.specs.Divided.{cyclic_numbers, part_of}
 use Rattle.acyc_edges.specs.Encoding.{is_cyclic}
-use Rattle.acyc_edges.proofs.CyclicLaws.{rises-filter}
 use Rattle.acyc_edges.proofs.NodeLaws.{rising-kept}
 use Rattle.acyc_edges.proofs.nodes.cyclic_atoms.Goals as goal
 

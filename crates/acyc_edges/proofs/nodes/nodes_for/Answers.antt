@@ -1,7 +1,6 @@
 -- What is left to show of `nodes_for`.
 use Rattle.std.proofs.Common.{ap, length, arith}
-use Rattle.components.specs.Divided.{cyclic_numbers}
-use Rattle.acyc_edges.specs.Components.{part_of}
+use Rattle.components.specs.Divided.{cyclic_numbers, part_of}
 use Rattle.acyc_edges.specs.Encoding.{is_cyclic}
 use Rattle.acyc_edges.proofs.NodeLaws.{given-few}
 use Rattle.acyc_edges.proofs.Totals.{length-part}

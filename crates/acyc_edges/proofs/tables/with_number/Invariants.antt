@@ -3,8 +3,8 @@ use Rattle.std.proofs.Common.{◌≡◌, ◌==◌, ◌++◌, drop}
 use Rattle.std.specs.List.{filter}
 use Rattle.ground_program.specs.Facts.{Among, LiteralsFit}
 use Rattle.ground_program.specs.Dependencies.{positives_of_literals}
-use Rattle.acyc_edges.specs.Components.{part_of}
 use Rattle.acyc_edges.proofs.tables.with_number.Given as goal
+use Rattle.components.specs.Divided.{part_of}
 
 abbrev pub invariant-loop-lit : goal.invariant-loop-lit
 invariant-loop-lit l = record {

@@ -2,7 +2,7 @@
 use Rattle.std.proofs.Common.{sym, ◌∙◌, ap, ◌∷◌, []}
 use Rattle.std.proofs.lemmas.Bool.{ne_eqb}
 use Rattle.asp_base.specs.Literal.{atom_of}
-use Rattle.level_ranking.specs.Components.{part_of}
+use Rattle.components.specs.Divided.{part_of}
 use Rattle.level_ranking.proofs.SourceLaws.{inside-true, inside-other}
 use Rattle.level_ranking.proofs.gathering.atom_inside.Goals as goal
 

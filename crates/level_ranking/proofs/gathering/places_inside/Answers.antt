@@ -1,10 +1,11 @@
 -- An atom is seen or is a further one, and another literal changes nothing.
 use Rattle.std.proofs.Common.{◌≡◌, ◌∙◌, sym, ap, subst, ◌-◌, ◌∷◌, [], map, arith}
 use Rattle.std.proofs.lemmas.List.{take_all}
-use Rattle.asp_base.specs.Sets.{members}
+use Rattle.asp_base.specs.Sets.{members, once}
 use Rattle.rising_numbers.specs.Rising.{place}
-use Rattle.level_ranking.specs.Encoding.{once, positive_in}
-use Rattle.level_ranking.specs.Components.{atoms_of_part, part_of}
+use Rattle.level_ranking.specs.Encoding.{positive_in}
+use Rattle.level_ranking.specs.Components.{atoms_of_part}
+use Rattle.components.specs.Divided.{part_of}
 use Rattle.level_ranking.specs.private.Sources.{with_once}
 use Rattle.level_ranking.proofs.InsideLaws.{once-same, once-next}
 use Rattle.level_ranking.proofs.gathering.places_inside.Goals as goal

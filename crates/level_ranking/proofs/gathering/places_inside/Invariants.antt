@@ -1,9 +1,10 @@
 -- The atoms so far, each once, with their places.
 use Rattle.std.proofs.Common.{◌≡◌, ◌-◌, map, take}
-use Rattle.asp_base.specs.Sets.{members}
+use Rattle.asp_base.specs.Sets.{members, once}
 use Rattle.rising_numbers.specs.Rising.{place}
-use Rattle.level_ranking.specs.Encoding.{once, positive_in}
-use Rattle.level_ranking.specs.Components.{atoms_of_part, part_of}
+use Rattle.level_ranking.specs.Encoding.{positive_in}
+use Rattle.level_ranking.specs.Components.{atoms_of_part}
+use Rattle.components.specs.Divided.{part_of}
 use Rattle.level_ranking.proofs.gathering.places_inside.Given as goal
 
 abbrev pub invariant-loop-lit : goal.invariant-loop-lit

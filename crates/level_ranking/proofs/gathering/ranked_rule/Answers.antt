@@ -1,9 +1,10 @@
 -- The rule that stands at the place, with the literal of its body.
 use Rattle.std.proofs.Common.{◌≡◌, ◌∙◌, sym, ap, ap₂, subst, get_or, List, ℕ, ◌<◌, ◌+◌, ◌-◌, ◌∷◌, [], map, arith, length}
-use Rattle.asp_base.specs.Sets.{members}
+use Rattle.asp_base.specs.Sets.{members, once}
 use Rattle.rising_numbers.specs.Rising.{place}
-use Rattle.level_ranking.specs.Components.{component, atoms_of_part, part_of}
-use Rattle.level_ranking.specs.Encoding.{once, Row, positive_in}
+use Rattle.level_ranking.specs.Components.{component, atoms_of_part}
+use Rattle.components.specs.Divided.{part_of}
+use Rattle.level_ranking.specs.Encoding.{Row, positive_in}
 use Rattle.level_ranking.specs.private.Sources.{placed}
 use Rattle.level_ranking.proofs.InsideLaws.{row-at, body-at, body-is}
 use Rattle.level_ranking.proofs.ReadyLaws.{bodies-length}

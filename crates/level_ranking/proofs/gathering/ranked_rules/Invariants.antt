@@ -1,6 +1,7 @@
 -- The rules so far lead to all of them.
 use Rattle.std.proofs.Common.{◌≡◌, ◌++◌, map, drop}
-use Rattle.level_ranking.specs.Components.{component, part_of}
+use Rattle.level_ranking.specs.Components.{component}
+use Rattle.components.specs.Divided.{part_of}
 use Rattle.level_ranking.specs.private.Sources.{placed, rows_listed}
 use Rattle.level_ranking.proofs.gathering.ranked_rules.Given as goal
 

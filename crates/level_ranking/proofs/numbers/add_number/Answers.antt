@@ -1,7 +1,8 @@
 -- There is room for the digits, and they are over the variables that are there then.
 use Rattle.std.proofs.Common.{◌≡◌, ◌∙◌, ap, ◌+◌, ◌≤◌, ◌^◌, ◌==◌, length, arith, cond}
 use Rattle.ground_program.specs.Digits.{digits}
-use Rattle.level_ranking.specs.Components.{atoms_of_part, part_of}
+use Rattle.level_ranking.specs.Components.{atoms_of_part}
+use Rattle.components.specs.Divided.{part_of}
 use Rattle.level_ranking.specs.private.Sources.{width_among, is_ranked}
 use Rattle.level_ranking.proofs.CountLaws.{filter-le}
 use Rattle.digit_gates.proofs.Variables.{variables-over}

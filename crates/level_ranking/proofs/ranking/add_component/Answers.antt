@@ -1,6 +1,6 @@
 -- The atom at hand is one of the component, and there is room for it.
 use Rattle.std.proofs.Common.{◌≡◌, ◌∙◌, ap, subst, ◌<◌, ◌+◌, ◌==◌, length, get_or, arith, filter}
-use Rattle.level_ranking.specs.Components.{part_of}
+use Rattle.components.specs.Divided.{part_of}
 use Rattle.level_ranking.specs.private.Sources.{atoms_in}
 use Rattle.level_ranking.proofs.SourceLaws.{from_cyclic}
 use Rattle.level_ranking.proofs.PartLoops.{atoms-start, atoms-next}

@@ -2,8 +2,7 @@
 use Rattle.std.proofs.Common.{◌∙◌, sym, ap, subst, subst₂}
 use Rattle.clause_store.specs.Stored.{formula_of_store}
 use Rattle.level_ranking.specs.Ranked.{HasFounded, AddsFew, AddsByParts}
-use Rattle.level_ranking.specs.Components.{part_of}
-use Rattle.components.specs.Divided.{cyclic_numbers}
+use Rattle.components.specs.Divided.{part_of, cyclic_numbers}
 use Rattle.level_ranking.proofs.BoundOfParts.{adds-by_parts}
 use Rattle.level_ranking.proofs.RankedStore.{rankings-have_founded}
 use Rattle.level_ranking.proofs.ReadyLaws.{parts-are}

@@ -1,14 +1,14 @@
 -- What is left to show of `inner_of`.
 use Rattle.std.proofs.Common.{◌≡◌, [], length, ap, ◌∙◌, sym, subst, arith}
 use Rattle.std.proofs.lemmas.List.{get_or_read}
-use Rattle.acyc_edges.specs.Components.{part_of}
 use Rattle.acyc_edges.specs.Encoding.{head_at, inner_at, rules_of}
 use Rattle.acyc_edges.specs.private.Setting.{Given}
-use Rattle.acyc_edges.specs.private.Sources.{In}
 use Rattle.acyc_edges.specs.private.Tables.{HasHead}
 use Rattle.acyc_edges.proofs.Inside.{member-in}
 use Rattle.acyc_edges.proofs.TableLaws.{inner-is, inner-length}
 use Rattle.acyc_edges.proofs.setting.Setting.inner_of.Goals as goal
+use Rattle.asp_base.specs.Sets.{In}
+use Rattle.components.specs.Divided.{part_of}
 
 pub returns : goal.returns
 returns c =

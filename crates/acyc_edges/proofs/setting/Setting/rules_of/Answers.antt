@@ -4,8 +4,8 @@ use Rattle.std.specs.List.{AllByRecursion}
 use Rattle.asp_base.specs.Sets.{members}
 use Rattle.components.specs.Components as links
 use Rattle.components.proofs.AtomLaws.{node-below}
+use Rattle.components.specs.Divided.{part_of}
 use Rattle.ground_program.specs.Facts.{IsProgram}
-use Rattle.acyc_edges.specs.Components.{part_of}
 use Rattle.acyc_edges.specs.Encoding.{rules_of}
 use Rattle.acyc_edges.specs.private.Tables.{HasHead}
 use Rattle.acyc_edges.proofs.FitLaws.{rules-headed}

@@ -1,0 +1,6 @@
+-- So many edges were copied.
+use Rattle.std.proofs.Common.{◌≡◌, take}
+use Rattle.ground_program.proofs.copies.copied_edges.Given as goal
+
+abbrev pub invariant-loop-edge : goal.invariant-loop-edge
+invariant-loop-edge l = l.copy ≡ take l.edge-index l.edges
