@@ -1,8 +1,9 @@
 //! The components of a program: its links, the parts of their graph among the atoms' nodes by one walk with stacks of
 //! its own (`graph_parts`), sums for the measures where a component is cyclic, and the atoms of each component by a
-//! counting sort. All of it is linear in the program. Where no body has a positive literal, nothing is linked.
+//! counting sort. All of it is linear in the program. Where no body has a positive literal, nothing is linked, and nothing
+//! but the numbers is kept.
 
-ghost use Rattle.std.specs.Prelude.{ℕ, min, ◌≡◌, ◌+◌, ◌-◌, ◌^◌, ◌<◌, ◌≤◌, false, [], length, map, slice_index, IfOk, EachIndex};
+ghost use Rattle.std.specs.Prelude.{ℕ, min, ◌≡◌, ◌+◌, ◌-◌, ◌^◌, ◌<◌, ◌≤◌, true, false, [], length, map, slice_index, IfOk, EachIndex};
 ghost use Rattle.std.specs.List.{AllByRecursion};
 ghost use Rattle.ground_program.specs.Dependencies.{positives_of_body};
 ghost use Rattle.ground_program.specs.Facts.{Among, RuleFits};
@@ -12,15 +13,16 @@ ghost use Rattle.components.specs.Components.{AreComponents};
 ghost use Rattle.components.specs.Divided.{cyclic_parts, members_of};
 ghost use Rattle.components.specs.Parts.{ArePartsOf};
 ghost use Rattle.components.specs.private.Adding.{added};
-ghost use Rattle.components.specs.private.Kept.{HasEntries, HaveSums, IsNoneCyclic, divided, numbered};
+ghost use Rattle.components.specs.private.Kept.{CountUp, HasEntries, HaveSums, HoldMembers, IsNoneCyclic, divided, numbered};
+ghost use Rattle.graph_parts.specs.Groups.{AreGroups};
 ghost use Rattle.components.specs.private.Links.{links_of_rules};
 
 use crate::adding::{Sums, added};
 use crate::costs::{odd_ones, ones, terms};
 use crate::links::{has_positive, links_of};
-use crate::parts::Parts;
+use crate::parts::{Members, Parts};
 use asp_base::Memory;
-use graph_parts::{Parts as GraphParts, grouped, parts_among, parts_apart};
+use graph_parts::{Groups, Parts as GraphParts, grouped, parts_among, parts_apart};
 use ground_program::{Atoms, Program, Rule};
 use std::alloc::Global;
 
@@ -173,10 +175,46 @@ fn put_together(
     ensures { IfOk result (λ all. all
         ≡ divided atoms.now parts sums.weights.items sums.terms.items sums.odd.items) }
 {
-    let pairs = behind_numbers(alloc, atoms.as_slice(), &parts)?;
-    let groups = grouped(alloc, pairs.as_slice(), parts.count() as usize + 1)?;
+    let members = members(alloc, atoms.as_slice(), &parts)?;
     let copy = copied(alloc, atoms)?;
-    Ok(Parts::new(copy, parts, groups, sums))
+    Ok(Parts::new(copy, parts, members, sums))
+}
+
+/// The atoms of the components. Where each is one atom, as it is without positive bodies, nothing is kept.
+fn members(alloc: Global, atoms: &[u32], parts: &GraphParts) -> Result<Members, Memory>
+    requires few { length atoms.now ≤ 2 ^ 30 }
+    requires sized { length parts.now.numbers ≡ length atoms.now }
+    requires most { EachIndex parts.now.numbers (λ u. slice_index parts.now.numbers u ≤ parts.now.count) }
+    ensures { IfOk result (HoldMembers atoms.now parts.now.numbers parts.now.count) }
+{
+    if parts.count() as usize == atoms.len() && count_up(parts.numbers()) {
+        return Ok(Members::Each);
+    }
+    Ok(Members::Grouped(grouped_atoms(alloc, atoms, parts)?))
+}
+
+/// Whether the numbers are those from 1 on, in order.
+fn count_up(numbers: &[u32]) -> bool
+    ensures { result ≡ true → CountUp numbers.now }
+{
+    for (place, number) in numbers.iter().enumerate() {
+        if *number as usize != place + 1 {
+            return false;
+        }
+    }
+    true
+}
+
+/// The atoms put together by their numbers.
+fn grouped_atoms(alloc: Global, atoms: &[u32], parts: &GraphParts) -> Result<Groups, Memory>
+    requires few { length atoms.now ≤ 2 ^ 30 }
+    requires sized { length parts.now.numbers ≡ length atoms.now }
+    requires most { EachIndex parts.now.numbers (λ u. slice_index parts.now.numbers u ≤ parts.now.count) }
+    ensures { IfOk result (λ groups. AreGroups (numbered atoms.now parts.now.numbers) (parts.now.count + 1)
+        groups.starts groups.values) }
+{
+    let pairs = behind_numbers(alloc, atoms, parts)?;
+    grouped(alloc, pairs.as_slice(), parts.count() as usize + 1)
 }
 
 /// The same atoms.

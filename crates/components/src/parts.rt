@@ -1,6 +1,6 @@
 //! The components of a program, as a type, and the measures of the cyclic ones, from sums that are kept of each.
 
-ghost use Rattle.std.specs.Prelude.{ℕ, ◌*◌, ◌≡◌, ◌↔◌, ◌+◌, ◌<◌, ◌≤◌, ◌^◌, false, min, length, IsNone, IfSome};
+ghost use Rattle.std.specs.Prelude.{ℕ, ◌*◌, ◌≡◌, ◌↔◌, ◌+◌, ◌-◌, ◌<◌, ◌≤◌, ◌^◌, false, min, length, slice_index, slice_range, IsNone, IfSome};
 ghost use Rattle.std.specs.List.{range_with_len, sum_by};
 ghost use Rattle.asp_base.specs.Sets.{members};
 ghost use Rattle.graph_parts.specs.Divided.{is_cyclic_at};
@@ -15,6 +15,15 @@ use graph_parts::{Groups, Parts as GraphParts};
 use ground_program::{Atoms, Program};
 use std::marker::Model;
 
+/// The atoms of each component.
+#[derive(Drop)]
+pub(crate) enum Members {
+    /// The components are numbered as the atoms are, and each is one atom.
+    Each,
+    /// The atoms are put together by the numbers of their components.
+    Grouped(Groups),
+}
+
 /// The components of a program. Their numbers run from 1 to the count, and a component depends on lower ones and itself
 /// alone. Contracts see the program's atoms, the number of each one's component, the count, which components are
 /// cyclic, and what is added up for each.
@@ -22,7 +31,7 @@ use std::marker::Model;
 pub struct Parts {
     atoms: Atoms,
     parts: GraphParts,
-    groups: Groups,
+    members: Members,
     sums: Sums,
 }
 
@@ -41,15 +50,14 @@ impl Parts {
     ghost use Rattle.components.specs.private.Kept.{IsDivided, divided};
 
     /// Components of these atoms, put together by their numbers.
-    pub(crate) fn new(atoms: Atoms, parts: GraphParts, groups: Groups, sums: Sums) -> Parts
-        requires { IsDivided atoms parts groups.starts groups.values
-            sums.weights.items sums.terms.items sums.odd.items }
+    pub(crate) fn new(atoms: Atoms, parts: GraphParts, members: Members, sums: Sums) -> Parts
+        requires { IsDivided atoms parts members sums.weights.items sums.terms.items sums.odd.items }
         ensures { result ≡ divided atoms parts sums.weights.items sums.terms.items sums.odd.items }
     {
         Parts {
             atoms,
             parts,
-            groups,
+            members,
             sums,
         }
     }
@@ -77,9 +85,10 @@ impl Parts {
         requires { i ≤ self.now.count }
         ensures { result.now ≡ members_of i self.now.atoms self.now.numbers }
     {
-        let number = i as usize;
-        let starts = self.groups.starts.as_slice();
-        &self.groups.values.as_slice()[starts[number] as usize..starts[number + 1] as usize]
+        match &self.members {
+            Members::Each => only(self.atoms.as_slice(), i as usize),
+            Members::Grouped(groups) => under(groups, i as usize),
+        }
     }
 
     /// Whether a component is cyclic: one of its atoms, and so each, depends on itself by way of others or at once.
@@ -142,6 +151,26 @@ impl Parts {
         }
         total
     }
+}
+
+/// The atom at a number, from 1.
+fn only(atoms: &[u32], number: usize) -> &[u32]
+    requires { number ≤ length atoms.now }
+    ensures { result.now ≡ slice_range atoms.now (number - 1) number }
+{
+    &atoms[number.saturating_sub(1)..number]
+}
+
+/// What stands under a key.
+fn under(groups: &Groups, key: usize) -> &[u32]
+    requires key { key + 1 < length groups.now.starts }
+    requires order { slice_index groups.now.starts key ≤ slice_index groups.now.starts (key + 1) }
+    requires end { slice_index groups.now.starts (key + 1) ≤ length groups.now.values }
+    ensures { result.now ≡ slice_range groups.now.values (slice_index groups.now.starts key)
+        (slice_index groups.now.starts (key + 1)) }
+{
+    let starts = groups.starts.as_slice();
+    &groups.values.as_slice()[starts[key] as usize..starts[key + 1] as usize]
 }
 
 fn squared(number: u64) -> u64

@@ -9,5 +9,4 @@ divided_of p =
 
 abbrev pub KeepsDivided : Inside → Type 0
 KeepsDivided p =
-    IsDivided p.atoms p.parts p.groups.starts p.groups.values p.sums.weights.items
-    p.sums.terms.items p.sums.odd.items
+    IsDivided p.atoms p.parts p.members p.sums.weights.items p.sums.terms.items p.sums.odd.items

@@ -8,11 +8,23 @@ use Rattle.rising_numbers.specs.Rising.{RisesFrom}
 use Rattle.ground_program.specs.declared.program.Rule.{Rule}
 use Rattle.components.specs.Divided.{Divided}
 use Rattle.components.specs.Parts.{AreSums}
+use Rattle.components.specs.declared.parts.Members.{Members}
+use Rattle.components.specs.declared.parts.Members.TheVariants.{Each, Grouped}
 
 -- each atom behind its number
 abbrev pub numbered : List ℕ → List ℕ → List (ℕ × ℕ)
 numbered atoms numbers =
     map (λ j. (slice_index numbers j, slice_index atoms j)) (range_with_len 0 (length atoms))
+
+-- the numbers from 1 on, in order
+abbrev pub CountUp : List ℕ → Type 0
+CountUp numbers = (u : ℕ) → u < length numbers → slice_index numbers u ≡ u + 1
+
+-- what is kept of the components' atoms finds them
+abbrev pub HoldMembers : List ℕ → List ℕ → ℕ → Members → Type 0
+HoldMembers atoms numbers count Each = (count ≡ length atoms) × CountUp numbers
+HoldMembers atoms numbers count (Grouped groups) =
+    AreGroups (numbered atoms numbers) (count + 1) groups.starts groups.values
 
 -- an entry for each cyclic component
 abbrev pub HasEntries : graph.Divided → List ℕ → Type 0
@@ -44,11 +56,11 @@ pub record HaveSums (rules : List Rule) (part : ℕ → List ℕ) (parts : graph
   pub termed : HasEntries parts terms
   pub basic : HasEntries parts odd
 
-pub record IsDivided (atoms : List ℕ) (parts : graph.Divided)
-    (starts members weights terms odd : List ℕ) : Type 0 where
+pub record IsDivided (atoms : List ℕ) (parts : graph.Divided) (members : Members)
+    (weights terms odd : List ℕ) : Type 0 where
   pub rise : RisesFrom 0 atoms
   pub sized : length parts.numbers ≡ length atoms
-  pub groups : AreGroups (numbered atoms parts.numbers) (parts.count + 1) starts members
+  pub held : HoldMembers atoms parts.numbers parts.count members
   pub weighed : HasEntries parts weights
   pub termed : HasEntries parts terms
   pub basic : HasEntries parts odd
