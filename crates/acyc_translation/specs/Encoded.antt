@@ -1,6 +1,6 @@
--- What the two encodings of positive recursion by acyclic edges make of a program, and why they make
--- nothing (M. Gebser, T. Janhunen and J. Rintanen, Answer set programming as SAT modulo acyclicity,
--- ECAI 2014).
+-- What the two encodings of positive recursion by acyclic edges make of a program, and why they
+-- make nothing (M. Gebser, T. Janhunen and J. Rintanen, Answer set programming as SAT modulo
+-- acyclicity, ECAI 2014).
 use Rattle.std.specs.Prelude.{◌≡◌, ◌≤◌, ◌<◌, ◌+◌, ◌*◌, ◌^◌, ◌⊎◌, ⊤, ℕ, min, List, [], length}
 use Rattle.asp_base.specs.Sets.{members, Within}
 use Rattle.asp_base.specs.Walks.{Acyclic}

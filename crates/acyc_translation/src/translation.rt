@@ -1,6 +1,7 @@
 //! From a program to its clauses with edges and its map: what encodes its recursion is completed, and each edge gets a
 //! literal that stands for its condition. Since no atom depends on itself, the supported sets are the founded ones, and
-//! the edges say the rest. (M. Gebser, T. Janhunen, J. Rintanen, Answer set programming as SAT modulo acyclicity, 2014.)
+//! the edges say the rest. (M. Gebser, T. Janhunen, J. Rintanen, Answer set programming as SAT modulo acyclicity,
+//! 2014.)
 
 ghost use Rattle.std.specs.Prelude.{◌≡◌, ◌≤◌, ◌^◌, length, IfOk, IfErr, OnOk};
 ghost use Rattle.asp_base.specs.Sets.{members, Within};

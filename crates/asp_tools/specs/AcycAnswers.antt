@@ -43,8 +43,8 @@ Writes encoding Aspif P (target ∷ []) = WritesProgram encoding P target
 Writes encoding Ecnf P (target ∷ table ∷ []) = WritesClauses encoding P target table
 Writes encoding format P made = ⊥
 
--- A program that was read is written so, or its room, or else with unique edges its tangle, is above
--- the limit; each is told up to 2^63.
+-- A program that was read is written so, or its room, or else with unique edges its tangle, is
+-- above the limit; each is told up to 2^63.
 abbrev pub OfGround : Encoding → AcycFormat → Ground → Answer → List (List ℕ) → Type 0
 OfGround encoding format P Done made = IsAccepted encoding P × Writes encoding format P made
 OfGround encoding format P (TooLarge number) [] =

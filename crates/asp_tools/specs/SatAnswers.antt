@@ -53,8 +53,8 @@ OfKind Wcnf P (SumTooLarge priority) =
     (P.edges ≡ []) × (room P ≤ room_limit) × (too_large_at P.levels ≡ Some priority)
 OfKind format P kind = ⊥
 
--- A program that was read is translated, or refused, or its room, which is told up to 2^63, is above
--- the limit.
+-- A program that was read is translated, or refused, or its room, which is told up to 2^63, is
+-- above the limit.
 abbrev pub OfGround : FormulaFormat → Ground → Answer → List (List ℕ) → Type 0
 OfGround format P Done (target ∷ table ∷ []) =
     (P.edges ≡ []) × (room P ≤ room_limit) × HasScale format P × Translates format P target table

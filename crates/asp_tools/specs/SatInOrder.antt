@@ -1,6 +1,6 @@
--- What the text of a program calls for, where the formula of a program of normal rules is told: it is
--- the program's completion, its clauses in the order of the rules, and behind it the rankings of its
--- cyclic components.
+-- What the text of a program calls for, where the formula of a program of normal rules is told: it
+-- is the program's completion, its clauses in the order of the rules, and behind it the rankings of
+-- its cyclic components.
 use Rattle.std.specs.Prelude.{◌≡◌, ⊤, ℕ, List, [], ◌∷◌, Result, Ok}
 use Rattle.asp_base.specs.Faults.{Fault}
 use Rattle.ground_program.specs.Ground.{Ground}

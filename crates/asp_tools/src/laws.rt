@@ -17,9 +17,9 @@ ghost use Rattle.asp_tools.specs.CheckAnswers.{Checks};
 ghost use Rattle.asp_tools.specs.Sayings.{accepted_text};
 ghost use Rattle.asp_tools.specs.declared.answer.Answer.TheVariants as answers;
 
-/// Where a formula with its map stands for a program, as those that `lp2sat` and `lp2acyc` write do, an answer that `back` accepts is a
-/// model of the formula; the atoms that it makes true are then a stable model of the program, and what is said is that
-/// model's names and cost.
+/// Where a formula with its map stands for a program, as those that `lp2sat` and `lp2acyc` write do, an answer that
+/// `back` accepts is a model of the formula; the atoms that it makes true are then a stable model of the program, and
+/// what is said is that model's names and cost.
 pub fn accepted_answers_are_stable_models()
     ensures stable { (P : Ground) (F : Clauses) (m : Symbols) (x : Answered) (said : List ℕ)
         → CoversMap P F m → Judges F m x answers.Done said
@@ -30,8 +30,9 @@ pub fn accepted_answers_are_stable_models()
         (cost P (restrict m (values_of x))) }
 {}
 
-/// Where a program stands for another one, as those that `lp2normal` and `lp2acyc` write do, what `check` says of a stable model of
-/// it is what it says of the atoms of the other one in it; and each stable model of the other one comes so from one.
+/// Where a program stands for another one, as those that `lp2normal` and `lp2acyc` write do, what `check` says of a
+/// stable model of it is what it says of the atoms of the other one in it; and each stable model of the other one comes
+/// so from one.
 pub fn checks_agree_on_normal_programs()
     ensures cut { (P N : Ground) (atoms said : List ℕ) → Faithful P N → Checks N atoms answers.Done said
         → Checks P (filter (members P.atoms) atoms) answers.Done said }

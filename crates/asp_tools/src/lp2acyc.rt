@@ -1,5 +1,5 @@
-//! `lp2acyc`: from the text of a program to the text of one in which positive recursion is told by edges, or to the texts
-//! of its clauses with edges and of its map.
+//! `lp2acyc`: from the text of a program to the text of one in which positive recursion is told by edges, or to the
+//! texts of its clauses with edges and of its map.
 //!
 //! A text is let go once its program is read, the program once it is encoded, and the formula once it is written.
 
@@ -33,8 +33,8 @@ pub(crate) fn reply(
     requires count { length texts ≡ 1 }
     requires within { AllByRecursion (λ text. length text ≤ 2 ^ 30) texts }
     ensures answers { IfOk result (λ r. AcycInOrder encoding format texts r.answer r.made r.said) }
-    ensures made { IfOk result (λ r. length r.made
-        ≡ (if makes (Command.Lp2acyc encoding format) r.answer then writes_of (Command.Lp2acyc encoding format) else 0)) }
+    ensures made { IfOk result (λ r. let command = Command.Lp2acyc encoding format in
+        length r.made ≡ (if makes command r.answer then writes_of command else 0)) }
     ensures said { IfOk result (λ r. r.said ≡ []) }
 {
     reply_to(alloc, encoding, format, only_text(texts)?)

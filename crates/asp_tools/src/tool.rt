@@ -16,9 +16,9 @@ use std::alloc::Global;
 ///
 /// The answers come in this order: `BadWords`; `ReadFault`, or `Refused` with `TextTooLong`, at the first of the files,
 /// which are read in their order; the first fault of a text, in the order of the files, a `Mismatch` of formula and map
-/// before the fault of an answer; `NoModelGiven`; `NotSmodels` or `Edges`; `TooLarge`; `Rejected`; `WriteFault`, which takes the
-/// place of an outcome that could not be said. `Memory` may come at any step before the first output is begun or
-/// something is said.
+/// before the fault of an answer; `NoModelGiven`; `NotSmodels` or `Edges`; `TooLarge`; `Rejected`; `WriteFault`, which
+/// takes the place of an outcome that could not be said. `Memory` may come at any step before the first output is begun
+/// or something is said.
 pub fn run<'a, D: Desk<'a>>(alloc: Global, words: &'a Words, desk: &mut D) -> Outcome
     requires { (D.state desk.old).writing ≡ None }
     // Exactly where the words name no job.

@@ -1,5 +1,5 @@
-//! A store in which a formula grows: variables, hard and soft clauses, edges, gates, and conjunctions with a variable of
-//! their own.
+//! A store in which a formula grows: variables, hard and soft clauses, edges, gates, and conjunctions with a variable
+//! of their own.
 
 ghost use Rattle.std.specs.Prelude.{◌≡◌, ◌<◌, ◌+◌, ◌-◌, ◌^◌, ℕ, suc, length, List, [], ◌∷◌, None, IfOk, OnOk, OnErr};
 ghost use Rattle.std.specs.List.{AllByRecursion};

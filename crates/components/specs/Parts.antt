@@ -13,8 +13,8 @@ use Rattle.components.specs.Divided.{Divided, members_of}
 abbrev pub entering_terms : List Rule → List ℕ → ℕ
 entering_terms rules part = sum_by (λ rule. cond (enters part rule) (term rule) 0) rules
 
--- What is added up for each cyclic component: its links and the room of its rules, which saturate at
--- 2^63, and a number that is 0 where all of its rules are basic.
+-- What is added up for each cyclic component: its links and the room of its rules, which saturate
+-- at 2^63, and a number that is 0 where all of its rules are basic.
 pub record AreSums (rules : List Rule) (part : ℕ → List ℕ) (count : ℕ) (cyclic : List Bool)
     (weights terms odd : List ℕ) : Type 0 where
   pub weighed : (i : ℕ) → 1 ≤ i → i ≤ count → is_cyclic_at cyclic i ≡ true

@@ -1,7 +1,7 @@
 //! The components of a program: its links, the parts of their graph among the atoms' nodes by one walk with stacks of
 //! its own (`graph_parts`), sums for the measures where a component is cyclic, and the atoms of each component by a
-//! counting sort. All of it is linear in the program. Where no body has a positive literal, nothing is linked, and nothing
-//! but the numbers is kept.
+//! counting sort. All of it is linear in the program. Where no body has a positive literal, nothing is linked, and
+//! nothing but the numbers is kept.
 
 ghost use Rattle.std.specs.Prelude.{ℕ, min, ◌≡◌, ◌+◌, ◌-◌, ◌^◌, ◌<◌, ◌≤◌, true, false, [], length, map, slice_index, IfOk, EachIndex};
 ghost use Rattle.std.specs.List.{AllByRecursion};

@@ -32,8 +32,8 @@ impl Model for Atoms {
 }
 
 impl Atoms {
-    /// The given atoms, which may stand in any order and repeat. It keeps their memory. `Memory` where the index of their
-    /// places finds none.
+    /// The given atoms, which may stand in any order and repeat. It keeps their memory. `Memory` where the index of
+    /// their places finds none.
     pub fn of_vec(alloc: Global, atoms: Vec<u32>) -> Result<Atoms, Memory>
         requires { AllByRecursion IsAtom atoms.items }
         ensures { IfOk result (λ list. list ≡ rising atoms.items) }

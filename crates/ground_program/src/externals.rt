@@ -16,7 +16,7 @@ use std::alloc::Global;
 
 /// Puts the rules of the external atoms that head no rule behind the others, by rising atom. The last
 /// setting of an atom counts.
-pub fn push_external_rules(
+pub(crate) fn push_external_rules(
     alloc: Global,
     rules: &mut RuleList,
     mut externals: Vec<(u32, External)>,

@@ -8,7 +8,7 @@ use crate::builder::External;
 use crate::program::{Body, Edge, Head, Level, Rule, Show};
 use asp_base::{Lit, Memory};
 
-pub fn push_literals(out: &mut Vec<u32>, lits: &[Lit]) -> Result<(), Memory>
+pub(crate) fn push_literals(out: &mut Vec<u32>, lits: &[Lit]) -> Result<(), Memory>
     ensures { OnOk result (out.new.items ≡ out.old.items ++ atoms_of_literals lits.now) }
 {
     for lit in lits {
@@ -45,7 +45,7 @@ fn push_body(out: &mut Vec<u32>, body: &Body) -> Result<(), Memory>
     }
 }
 
-pub fn push_heads(out: &mut Vec<u32>, rules: &[Rule]) -> Result<(), Memory>
+pub(crate) fn push_heads(out: &mut Vec<u32>, rules: &[Rule]) -> Result<(), Memory>
     ensures { OnOk result (out.new.items ≡ out.old.items ++ flat_map (λ rule. atoms_of_head rule.head) rules.now) }
 {
     for rule in rules {
@@ -70,7 +70,7 @@ pub fn push_rules(out: &mut Vec<u32>, rules: &[Rule]) -> Result<(), Memory>
     Ok(())
 }
 
-pub fn push_edges(out: &mut Vec<u32>, edges: &[Edge]) -> Result<(), Memory>
+pub(crate) fn push_edges(out: &mut Vec<u32>, edges: &[Edge]) -> Result<(), Memory>
     ensures { OnOk result (out.new.items ≡ out.old.items
         ++ flat_map (λ edge. atoms_of_literals edge.condition) edges.now) }
 {
@@ -80,7 +80,7 @@ pub fn push_edges(out: &mut Vec<u32>, edges: &[Edge]) -> Result<(), Memory>
     Ok(())
 }
 
-pub fn push_levels(out: &mut Vec<u32>, levels: &[Level]) -> Result<(), Memory>
+pub(crate) fn push_levels(out: &mut Vec<u32>, levels: &[Level]) -> Result<(), Memory>
     ensures { OnOk result (out.new.items ≡ out.old.items ++ flat_map (λ level. atoms_of_items level.items) levels.now) }
 {
     for level in levels {
@@ -89,7 +89,7 @@ pub fn push_levels(out: &mut Vec<u32>, levels: &[Level]) -> Result<(), Memory>
     Ok(())
 }
 
-pub fn push_shows(out: &mut Vec<u32>, shows: &[Show]) -> Result<(), Memory>
+pub(crate) fn push_shows(out: &mut Vec<u32>, shows: &[Show]) -> Result<(), Memory>
     ensures { OnOk result (out.new.items ≡ out.old.items
         ++ flat_map (λ show. atoms_of_literals show.condition) shows.now) }
 {
@@ -99,7 +99,10 @@ pub fn push_shows(out: &mut Vec<u32>, shows: &[Show]) -> Result<(), Memory>
     Ok(())
 }
 
-pub fn push_externals(out: &mut Vec<u32>, externals: &[(u32, External)]) -> Result<(), Memory>
+pub(crate) fn push_externals(
+    out: &mut Vec<u32>,
+    externals: &[(u32, External)],
+) -> Result<(), Memory>
     ensures { OnOk result (out.new.items ≡ out.old.items ++ map (λ set. set.0) externals.now) }
 {
     for set in externals {

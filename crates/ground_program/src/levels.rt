@@ -14,7 +14,7 @@ use std::alloc::Global;
 
 /// One level for each priority, by falling priority; its items are those of the levels of that priority,
 /// in their order.
-pub fn merge_levels(alloc: Global, mut levels: Vec<Level>) -> Result<Vec<Level>, Memory>
+pub(crate) fn merge_levels(alloc: Global, mut levels: Vec<Level>) -> Result<Vec<Level>, Memory>
     requires { AllByRecursion (λ level. level.priority <ℤ pos (2 ^ 31)) levels.items }
     ensures { IfOk result (λ merged. merged.items ≡ levels_onto [] levels.items) }
 {

@@ -24,7 +24,7 @@ use std::marker::Model;
 /// A rule of an atom: the literal of its body, none where it is empty, and the places of the body's positive atoms in
 /// the component, each once.
 #[derive(Drop)]
-pub struct RankedRule {
+pub(crate) struct RankedRule {
     pub body: Option<Lit>,
     pub inside: Vec<usize>,
 }

@@ -14,7 +14,8 @@ use Rattle.soft_costs.specs.declared.scale.ScaleRefusal.TheVariants as refusals
 
 -- levels over the variables 1 to n
 abbrev pub AreOver : ℕ → List Level → Type 0
-AreOver n levels = AllByRecursion (λ level. AllByRecursion (λ item. IsOver n item.0) level.items) levels
+AreOver n levels =
+    AllByRecursion (λ level. AllByRecursion (λ item. IsOver n item.0) level.items) levels
 
 -- the scale of levels: factors and offsets stand by falling priority, as costs do
 pub record IsScale (levels : List Level) (scale : Scale) : Type 0 where

@@ -8,7 +8,7 @@ use std::marker::Model;
 
 /// What each rule lacks, and the rules that lack nothing and wait to derive their heads.
 #[derive(Drop)]
-pub struct Counters {
+pub(crate) struct Counters {
     lacks: Vec<u32>,
     ready: Vec<u32>,
 }

@@ -19,7 +19,7 @@ use std::marker::Model;
 
 /// The atoms that were derived, by their flags, and what the rules lack with them.
 #[derive(Drop)]
-pub struct Growth {
+pub(crate) struct Growth {
     derived: Vec<bool>,
     counters: Counters,
 }

@@ -13,7 +13,7 @@ use ground_program::{Atoms, Body, Rule};
 use std::alloc::Global;
 
 /// The number, or 0 where it is negative.
-pub fn natural(number: i64) -> u32
+pub(crate) fn natural(number: i64) -> u32
     requires { number ≤ℤ pos (2 ^ 31 - 1) }
     ensures { result ≡ natural number }
 {
@@ -77,7 +77,12 @@ fn lack(atoms: &Atoms, set: &[bool], rule: &Rule) -> u32
 }
 
 /// What the rules lack before any atom is derived.
-pub fn lacks(alloc: Global, atoms: &Atoms, set: &[bool], rules: &[Rule]) -> Result<Vec<u32>, Memory>
+pub(crate) fn lacks(
+    alloc: Global,
+    atoms: &Atoms,
+    set: &[bool],
+    rules: &[Rule],
+) -> Result<Vec<u32>, Memory>
     requires same { length set.now ≡ length atoms.now }
     requires fit { AllByRecursion (RuleFits (Among atoms.now)) rules.now }
     ensures { IfOk result (λ lacks. lacks.items ≡ map (lack none (flag atoms.now set.now)) rules.now) }
@@ -90,7 +95,7 @@ pub fn lacks(alloc: Global, atoms: &Atoms, set: &[bool], rules: &[Rule]) -> Resu
 }
 
 /// The indices of the zeros.
-pub fn zeros(alloc: Global, numbers: &[u32]) -> Result<Vec<u32>, Memory>
+pub(crate) fn zeros(alloc: Global, numbers: &[u32]) -> Result<Vec<u32>, Memory>
     requires { length numbers.now < 2 ^ 32 }
     ensures { IfOk result (λ places. places.items ≡ zeros 0 numbers.now) }
 {

@@ -15,7 +15,7 @@ const MOST_LINKS: usize = 0xFFFF_FFFF;
 /// A place where an atom stands in a body as a positive literal: the rule, the weight there, and the number of the next
 /// link of that atom, or 0 for none.
 #[derive(Clone, Copy)]
-pub struct Link {
+pub(crate) struct Link {
     rule: u32,
     weight: u32,
     next: u32,
@@ -24,7 +24,7 @@ pub struct Link {
 /// For each atom where it stands in bodies as a positive literal, as a chain of links that begins with the newest one.
 /// Links are numbered from 1.
 #[derive(Drop)]
-pub struct Occurrences {
+pub(crate) struct Occurrences {
     rules: u32,
     first: Vec<u32>,
     links: Vec<Link>,

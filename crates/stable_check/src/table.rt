@@ -93,7 +93,11 @@ fn add_rule(atoms: &Atoms, n: u32, rule: &Rule, table: &mut Occurrences) -> Resu
 }
 
 /// The occurrences of the atoms in the bodies of the rules as positive literals.
-pub fn occurrences(alloc: Global, atoms: &Atoms, rules: &[Rule]) -> Result<Occurrences, Memory>
+pub(crate) fn occurrences(
+    alloc: Global,
+    atoms: &Atoms,
+    rules: &[Rule],
+) -> Result<Occurrences, Memory>
     requires few { length rules.now < 2 ^ 32 }
     requires fit { AllByRecursion (RuleFits (Among atoms.now)) rules.now }
     ensures { IfOk result (λ table. table ≡ record {

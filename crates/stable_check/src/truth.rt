@@ -48,7 +48,7 @@ fn sum_reaches(set: &AtomSet, bound: i64, items: &[(Lit, i64)]) -> bool
 }
 
 /// Whether the body holds in the set.
-pub fn body_holds(set: &AtomSet, body: &Body) -> bool
+pub(crate) fn body_holds(set: &AtomSet, body: &Body) -> bool
     requires { WeightsFit body.now }
     ensures { result ≡ holds body.now (members set.now) (members set.now) }
 {
@@ -70,7 +70,7 @@ fn head_fails(set: &AtomSet, head: &Head) -> bool
 }
 
 /// Whether the set breaks the rule.
-pub fn breaks(set: &AtomSet, rule: &Rule) -> bool
+pub(crate) fn breaks(set: &AtomSet, rule: &Rule) -> bool
     requires { WeightsFit rule.now.body }
     ensures { result ≡ breaks rule.now (members set.now) }
 {

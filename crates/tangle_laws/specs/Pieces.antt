@@ -17,8 +17,8 @@ pub record Piece : Type 0 where
   pub rules : List Rule
 
 -- The heads are new or heads of the rule; positive literals are over new atoms, then below a new
--- head, or over positive atoms of the rule's body. Atoms and rules are within the rule's term. A rule
--- of one head over literals is its own piece.
+-- head, or over positive atoms of the rule's body. Atoms and rules are within the rule's term. A
+-- rule of one head over literals is its own piece.
 pub record IsPiece (rule : Rule) (piece : Piece) : Type 0 where
   pub normal : AreNormal piece.rules
   pub heads : AllByRecursion (λ made. (a : ℕ) → members (atoms_of_head made.head) a ≡ true

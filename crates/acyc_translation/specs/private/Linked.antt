@@ -1,5 +1,5 @@
--- What edges under literals leave in a store: further variables and clauses that define the literals
--- of their conditions, and the graph that a set gives.
+-- What edges under literals leave in a store: further variables and clauses that define the
+-- literals of their conditions, and the graph that a set gives.
 use Rattle.std.specs.Prelude.{◌≡◌, ◌≤◌, ◌+◌, ℕ, ℤ, true, List, [], ◌∷◌, ◌++◌, length}
 use Rattle.std.specs.List.{sum_by}
 use Rattle.asp_base.specs.Literal.{Literal, all_hold}
@@ -11,8 +11,8 @@ use Rattle.clause_store.specs.Models.{is_true, clauses_true, linked, IsAssignmen
 use Rattle.clause_store.specs.Stored.{Stored}
 use Rattle.completion.specs.Completion.{atoms_at}
 
--- Each assignment that the earlier clauses take has just one extension that the later ones take, and
--- at most so many variables and clauses are added.
+-- Each assignment that the earlier clauses take has just one extension that the later ones take,
+-- and at most so many variables and clauses are added.
 pub record Defines (m n : ℕ) (before after : Stored) : Type 0 where
   pub grows : before.vars ≤ after.vars
   pub vars : after.vars ≤ before.vars + m

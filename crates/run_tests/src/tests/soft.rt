@@ -1,4 +1,5 @@
-//! Runs of `lp2sat --soft`: the weighted clauses, byte for byte; what answers to them cost; and sums that are too large.
+//! Runs of `lp2sat --soft`: the weighted clauses, byte for byte; what answers to them cost; and sums that are too
+//! large.
 
 use super::runs::{
     End, done, expect_end, expect_judged, expect_judgement, expect_translations, refused, rejected,
