@@ -21,8 +21,8 @@ use std::alloc::Global;
 /// The rules of each atom, by its place, and for each rule the atoms of its body in the component of its head.
 #[derive(Drop)]
 pub(crate) struct Tables {
-    pub owners: Groups,
-    pub inner: Vec<AtomList>,
+    pub(crate) owners: Groups,
+    pub(crate) inner: Vec<AtomList>,
 }
 
 /// Each rule with one head, behind the place of its head.

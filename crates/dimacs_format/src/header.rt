@@ -29,9 +29,9 @@ pub(crate) enum Form {
 /// The numbers of variables and of clauses, and the form.
 #[derive(Clone, Copy)]
 pub(crate) struct Header {
-    pub vars: u32,
-    pub clauses: u64,
-    pub form: Form,
+    pub(crate) vars: u32,
+    pub(crate) clauses: u64,
+    pub(crate) form: Form,
 }
 
 /// The header, in the first line that counts.

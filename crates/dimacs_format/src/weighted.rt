@@ -18,8 +18,8 @@ use std::alloc::Global;
 /// The clauses of a WCNF text.
 #[derive(Drop)]
 pub(crate) struct Parts {
-    pub hard: ClauseList,
-    pub soft: SoftList,
+    pub(crate) hard: ClauseList,
+    pub(crate) soft: SoftList,
 }
 
 /// So many clauses over the variables 1 to `vars`: hard where the weight is `top` or more, and else soft.

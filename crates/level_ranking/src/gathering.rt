@@ -87,18 +87,18 @@ fn places_inside(
 /// What is given for rankings: a program, its components, and the literals of its rules' bodies.
 #[derive(Drop)]
 pub(crate) struct Given<'a> {
-    pub program: &'a Program,
-    pub parts: &'a Parts,
-    pub bodies: &'a Bodies,
+    pub(crate) program: &'a Program,
+    pub(crate) parts: &'a Parts,
+    pub(crate) bodies: &'a Bodies,
 }
 
 /// What the rankings of a program are made from: what is given, the digits of its atoms, and the places of its rules by
 /// those of their heads.
 #[derive(Drop)]
 pub(crate) struct Sources<'a> {
-    pub given: Given<'a>,
-    pub numbers: &'a [LitList],
-    pub heads: &'a Groups,
+    pub(crate) given: Given<'a>,
+    pub(crate) numbers: &'a [LitList],
+    pub(crate) heads: &'a Groups,
 }
 
 /// The rule at a place, as a rule of an atom of the component.

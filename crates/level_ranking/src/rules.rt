@@ -25,8 +25,8 @@ use std::marker::Model;
 /// the component, each once.
 #[derive(Drop)]
 pub(crate) struct RankedRule {
-    pub body: Option<Lit>,
-    pub inside: Vec<usize>,
+    pub(crate) body: Option<Lit>,
+    pub(crate) inside: Vec<usize>,
 }
 
 impl Model for RankedRule {

@@ -29,14 +29,14 @@ fn comes_to_zero(before: u32, after: u32) -> bool
 }
 
 impl Counters {
-    pub fn new(lacks: Vec<u32>, ready: Vec<u32>) -> Counters
+    pub(crate) fn new(lacks: Vec<u32>, ready: Vec<u32>) -> Counters
         ensures { result ≡ record { lacks = lacks.items; ready = ready.items } }
     {
         Counters { lacks, ready }
     }
 
     /// Takes off a weight from what a rule lacks.
-    pub fn take_off(&mut self, rule: u32, weight: u32) -> Result<(), Memory>
+    pub(crate) fn take_off(&mut self, rule: u32, weight: u32) -> Result<(), Memory>
         requires { rule < length self.old.lacks }
         ensures { OnOk result (self.new ≡ take_off (rule, weight) self.old) }
     {
@@ -50,7 +50,7 @@ impl Counters {
     }
 
     /// Takes a rule from those that are ready.
-    pub fn next_ready(&mut self) -> Option<u32>
+    pub(crate) fn next_ready(&mut self) -> Option<u32>
         ensures none { IsNone result → (self.old.ready ≡ []) × (self.new ≡ self.old) }
         ensures some { IfSome result (λ rule. (self.old.ready ≡ self.new.ready ++ (rule ∷ []))
             × (self.new.lacks ≡ self.old.lacks)) }

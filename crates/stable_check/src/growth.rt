@@ -33,13 +33,13 @@ impl Model for Growth {
 }
 
 impl Growth {
-    pub fn new(derived: Vec<bool>, counters: Counters) -> Growth
+    pub(crate) fn new(derived: Vec<bool>, counters: Counters) -> Growth
         ensures { result ≡ record { derived = derived.items; counts = counters } }
     {
         Growth { derived, counters }
     }
 
-    pub fn into_derived(self) -> Vec<bool>
+    pub(crate) fn into_derived(self) -> Vec<bool>
         ensures { result.items ≡ self.derived }
     {
         self.derived
@@ -123,7 +123,7 @@ impl Growth {
         }
     }
     /// Derives the heads of rules that are ready until none is.
-    pub fn run(
+    pub(crate) fn run(
         &mut self,
         atoms: &Atoms,
         set: &[bool],

@@ -42,7 +42,7 @@ impl Model for Occurrences {
 
 impl Occurrences {
     /// None yet, for so many atoms and so many rules.
-    pub fn new(alloc: Global, atoms: usize, rules: u32) -> Result<Occurrences, Memory>
+    pub(crate) fn new(alloc: Global, atoms: usize, rules: u32) -> Result<Occurrences, Memory>
         ensures { IfOk result (λ table. table ≡ record { rules = rules; rows = replicate atoms [] }) }
     {
         let first = Vec::from_elem(alloc, 0, atoms)?;
@@ -54,7 +54,7 @@ impl Occurrences {
     }
 
     /// Adds an occurrence of the atom with this index.
-    pub fn push(&mut self, index: usize, rule: u32, weight: u32) -> Result<(), Memory>
+    pub(crate) fn push(&mut self, index: usize, rule: u32, weight: u32) -> Result<(), Memory>
         requires index { index < length self.old.rows }
         requires rule { rule < self.old.rules }
         ensures { OnOk result (self.new ≡ record {
@@ -73,7 +73,7 @@ impl Occurrences {
     }
 
     /// Takes off the weights of the atom with this index from what the rules lack.
-    pub fn take_off(&self, index: usize, counters: &mut Counters) -> Result<(), Memory>
+    pub(crate) fn take_off(&self, index: usize, counters: &mut Counters) -> Result<(), Memory>
         requires index { index < length self.now.rows }
         requires rules { self.now.rules ≡ length counters.old.lacks }
         ensures { OnOk result (counters.new ≡ take_off_all (get_or self.now.rows index []) counters.old) }
